@@ -1,0 +1,63 @@
+ghost use Rattle.std.specs.Prelude.{◌≡◌, ◌<◌, [], ◌∷◌, ◌++◌, length, map, slice_get, Some, OnOk, OnErr};
+
+use crate::answer::Answer;
+use crate::memory::Memory;
+use std::alloc::Global;
+use std::marker::Model;
+
+/// Rows of a key and its answer, seen as the list of these pairs.
+#[derive(Drop)]
+pub struct Rows<K> {
+    rows: Vec<(K, Answer)>,
+}
+
+impl<K> Model for Rows<K> {
+    ghost use Rattle.std.specs.Prelude.{List, ℤ};
+
+    ghost Value = { List (K × List ℤ) };
+
+    ghost view = { λ r. r.rows.items };
+}
+
+impl<K: Drop> Rows<K> {
+    /// No row. Takes no memory.
+    pub fn new(alloc: Global) -> Rows<K>
+        ensures { result ≡ [] }
+    {
+        Rows {
+            rows: Vec::new(alloc),
+        }
+    }
+
+    /// Puts a row last. After want of memory the rows are as before.
+    pub fn push(&mut self, key: K, answer: Answer) -> Result<(), Memory>
+        ensures ok { OnOk result (self.new ≡ self.old ++ (key, answer) ∷ []) }
+        ensures err { OnErr result (self.new ≡ self.old) }
+    {
+        self.rows.push((key, answer))?;
+        Ok(())
+    }
+
+    /// How many there are.
+    pub fn len(&self) -> usize
+        ensures { result ≡ length self.now }
+    {
+        self.rows.len()
+    }
+
+    /// The key of row `i`, counted from 0.
+    pub fn key(&self, i: usize) -> &K
+        requires { i < length self.now }
+        ensures { slice_get (map (λ r. r.0) self.now) i ≡ Some result.now }
+    {
+        &self.rows[i].0
+    }
+
+    /// The answer of row `i`, counted from 0.
+    pub fn answer(&self, i: usize) -> &Answer
+        requires { i < length self.now }
+        ensures { slice_get (map (λ r. r.1) self.now) i ≡ Some result.now }
+    {
+        &self.rows[i].1
+    }
+}

@@ -1,0 +1,53 @@
+-- Emissions in another order have the same rows, the same cells and the same fault, where no fold depends on the order.
+use Rattle.std.proofs.Common.{◌≡◌, Bool, not, List, length, Option, Some, None, sym, ap, ◌∙◌, filter, filter_map, IsPermutation, option_map, is_none}
+use Rattle.std.specs.declared.cmp.Ordering.{Ordering}
+use Rattle.std.specs.Cmp.{IsTotalOrder, nat_cmp_total}
+use Rattle.std.specs.FinMap.{IsAntisymmetric, nat_cmp-IsAntisymmetric}
+use Rattle.mr_defs.specs.Emission.{Emission, Answer}
+use Rattle.mr_defs.specs.Commutative.{joined, joined_by-append, joined_by-IsPermutation}
+use Rattle.mr_defs.specs.Keyed.{at, keys_inside, any_key, large_key, malformed_offset, lesser, least}
+use Rattle.mr_defs.specs.Faulty.{malformed_of, outside_of, large_of, over_of, first_of, fault_of}
+use Rattle.mr_defs.specs.Rows.{rows_of, cells_of}
+use Rattle.mr_defs.specs.Laws.{IsFoldOrderFree, MeansTheSame}
+use Rattle.mr_defs.proofs.Lesser.{lesser_commutative}
+use Rattle.mr_defs.proofs.Readings.{passing, malformed_read, outside_read, large_read}
+use Rattle.mr_defs.proofs.Shuffled.{IsPermutation-at, keys-IsPermutation}
+
+module _ {K V : Type 0} (R : K → K → Ordering) (o : IsTotalOrder R) (one : IsAntisymmetric R) (inside : K → Bool) (xs ys : List (Emission K V)) (p : IsPermutation xs ys) where
+  same_keys : keys_inside R inside ys ≡ keys_inside R inside xs
+  same_keys = ap (filter inside) (keys-IsPermutation R o one xs ys p)
+
+  pub cells_of-IsPermutation : cells_of R inside ys ≡ cells_of R inside xs
+  cells_of-IsPermutation = ap length same_keys
+
+  same_malformed : malformed_of ys ≡ malformed_of xs
+  same_malformed = sym (malformed_read R inside ys) ∙ joined_by-IsPermutation (lesser_commutative nat_cmp_total nat_cmp-IsAntisymmetric) malformed_offset xs ys p ∙ malformed_read R inside xs
+
+  same_outside : outside_of R inside ys ≡ outside_of R inside xs
+  same_outside = sym (outside_read R inside ys) ∙ joined_by-IsPermutation (lesser_commutative o one) (λ e. passing (λ k. not (inside k)) (any_key e)) xs ys p ∙ outside_read R inside xs
+
+  same_large : large_of R inside ys ≡ large_of R inside xs
+  same_large = sym (large_read R inside ys) ∙ joined_by-IsPermutation (lesser_commutative o one) (λ e. passing inside (large_key e)) xs ys p ∙ large_read R inside xs
+
+  module _ (folded : List V → Option Answer) (free : IsFoldOrderFree folded) where
+    same_folds : (k : K) → folded (at R ys k) ≡ folded (at R xs k)
+    same_folds k = free (at R xs k) (at R ys k) (IsPermutation-at R xs ys k p)
+
+    pub rows_of-IsPermutation : rows_of R inside folded ys ≡ rows_of R inside folded xs
+    rows_of-IsPermutation = λ i. filter_map (λ k. option_map (λ a. (k, a)) (same_folds k i)) (same_keys i)
+
+    over_keys : filter (λ k. is_none (folded (at R ys k))) (keys_inside R inside ys) ≡ filter (λ k. is_none (folded (at R xs k))) (keys_inside R inside xs)
+    over_keys = λ i. filter (λ k. is_none (same_folds k i)) (same_keys i)
+
+    same_over : over_of R inside folded ys ≡ over_of R inside folded xs
+    same_over =
+        joined_by-append (lesser_commutative o one) (λ k. Some k) (filter inside (filter_map large_key ys)) (filter (λ k. is_none (folded (at R ys k))) (keys_inside R inside ys))
+        ∙ ap (λ u. joined (lesser R) u (least R (filter (λ k. is_none (folded (at R ys k))) (keys_inside R inside ys)))) same_large
+        ∙ ap (λ l. joined (lesser R) (large_of R inside xs) (least R l)) over_keys
+        ∙ sym (joined_by-append (lesser_commutative o one) (λ k. Some k) (filter inside (filter_map large_key xs)) (filter (λ k. is_none (folded (at R xs k))) (keys_inside R inside xs)))
+
+    pub fault_of-IsPermutation : fault_of R inside folded ys ≡ fault_of R inside folded xs
+    fault_of-IsPermutation = λ i. first_of (same_malformed i) (same_outside i) None (same_over i)
+
+    pub means_the_same : MeansTheSame R inside folded xs ys
+    means_the_same = record { rows = rows_of-IsPermutation; fault = fault_of-IsPermutation; cells = cells_of-IsPermutation }

@@ -1,0 +1,11 @@
+pub mod Commutative
+pub mod Emission
+pub mod Keyed
+pub mod Faulty
+pub mod Folded
+pub mod Rows
+pub mod Stands
+pub mod Parts
+pub mod Tasks
+pub mod Rounds
+pub mod Laws

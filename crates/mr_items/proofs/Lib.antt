@@ -1,0 +1,4 @@
+pub mod AllTasks
+mod TextExamples
+mod GridExamples
+mod LineExamples

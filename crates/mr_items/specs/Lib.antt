@@ -1,0 +1,10 @@
+pub mod Runs
+pub mod Words
+pub mod Lines
+pub mod Number
+pub mod Texts
+pub mod Outcome
+pub mod WordCount
+pub mod Grid
+pub mod Bitmap
+pub mod FaultLines
