@@ -1,6 +1,5 @@
 -- FNV-1a of 64 bits: from the offset basis on, an exclusive or with each byte and then a product with the prime, modulo 2 ^ 64.
-use Rattle.std.specs.Prelude.{ℕ, ◌*◌, ◌%◌, ◌^◌, ◌/◌, List, [], ◌∷◌, bit_xor, map}
-use Rattle.std.specs.List.{range_with_len}
+use Rattle.std.specs.Prelude.{ℕ, ◌*◌, ◌%◌, ◌^◌, List, [], ◌∷◌, bit_xor}
 
 abbrev pub fnv1a_from : ℕ → List ℕ → ℕ
 fnv1a_from state [] = state

@@ -1,5 +1,5 @@
 -- What a list becomes whose items were lent.
-use Rattle.std.specs.Prelude.{ℕ, List, ◌++◌, take, drop, length}
+use Rattle.std.specs.Prelude.{List, ◌++◌, take, drop, length}
 use Rattle.std.specs.Borrow.{Lends, MutBor, Fml, Array}
 use denote.RattleType.{RattleType}
 use Rattle.mr_base.specs.Spare.{Spared}

@@ -19,6 +19,8 @@ mod number;
 mod patterns;
 mod rows;
 mod status;
+#[cfg(test)]
+mod tests;
 mod text;
 mod word;
 

@@ -1,4 +1,4 @@
-use Rattle.std.proofs.Common.{rules, arith, ◌+◌, ◌-◌, ◌*◌, get_or, refl}
+use Rattle.std.proofs.Common.{rules, ◌+◌, ◌-◌, ◌*◌, get_or, refl}
 use Rattle.mr_base.proofs.Digits.{exceeds}
 use Rattle.mr_base.proofs.number.natural.Goals as goal
 
