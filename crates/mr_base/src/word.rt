@@ -2,6 +2,7 @@ ghost use Rattle.std.specs.Prelude.{◌≡◌, IfOk};
 
 use crate::memory::Memory;
 use std::alloc::Global;
+use std::convert::AsStr;
 use std::marker::Model;
 
 /// A word of the command, seen as its bytes.
@@ -31,6 +32,14 @@ impl Word {
     pub fn as_str(&self) -> &str
         ensures { result.now ≡ self.now }
     {
+        self.text.as_str()
+    }
+}
+
+impl AsStr for Word {
+    ghost text = { λ w. w };
+
+    fn as_str(&self) -> &str {
         self.text.as_str()
     }
 }
