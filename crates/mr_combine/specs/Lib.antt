@@ -1,0 +1,3 @@
+pub mod Bounded
+pub mod Fold
+pub mod Sums
