@@ -37,7 +37,7 @@ count_folded_free xs ys p = ap (λ n. if nat_le n limit then Some (pos n ∷ [])
 pub one_folded_free : IsFoldOrderFree one_folded
 one_folded_free xs ys p = refl
 
-in_order-IsPermutation : (xs ys : List ℤ) → IsPermutation xs ys → in_order ys ≡ in_order xs
+pub in_order-IsPermutation : (xs ys : List ℤ) → IsPermutation xs ys → in_order ys ≡ in_order xs
 in_order-IsPermutation xs ys p = fold-IsPermutation (put_in_order int_cmp) (put_in_order_free int_cmp int_cmp_total int_cmp-IsAntisymmetric) [] xs ys p
 
 pub list_folded_free : IsFoldOrderFree list_folded
@@ -71,10 +71,10 @@ reduce-IsPermutation {op = op} laws xs ys p = reduce-joined_by laws ys ∙ joine
 pub bits_folded_free : (op : ℕ → ℕ → ℕ) → IsCommutative op → IsFoldOrderFree (bits_folded op)
 bits_folded_free op laws xs ys p = ap (option_map (λ n. cast_signed w64 n ∷ [])) (reduce-IsPermutation laws (map (cast_unsigned w64) xs) (map (cast_unsigned w64) ys) (IsPermutation-map (cast_unsigned w64) xs ys p))
 
-int_min_commutative : IsCommutative int_min
+pub int_min_commutative : IsCommutative int_min
 int_min_commutative = record { comm = λ x y. omega (arith, clamps, ints); assoc = λ x y z. omega (arith, clamps, ints) }
 
-int_max_commutative : IsCommutative int_max
+pub int_max_commutative : IsCommutative int_max
 int_max_commutative = record { comm = λ x y. omega (arith, clamps, ints); assoc = λ x y z. omega (arith, clamps, ints) }
 
 pub min_folded_free : IsFoldOrderFree min_folded
@@ -83,8 +83,11 @@ min_folded_free xs ys p = ap (option_map (λ v. v ∷ [])) (reduce-IsPermutation
 pub max_folded_free : IsFoldOrderFree max_folded
 max_folded_free xs ys p = ap (option_map (λ v. v ∷ [])) (reduce-IsPermutation int_max_commutative xs ys p)
 
+pub and_commutative : IsCommutative bit_and
+and_commutative = record { comm = and_comm; assoc = λ x y z. and_assoc z x y }
+
 pub and_folded_free : IsFoldOrderFree and_folded
-and_folded_free xs ys p = bits_folded_free bit_and (record { comm = and_comm; assoc = λ x y z. and_assoc z x y }) xs ys p
+and_folded_free xs ys p = bits_folded_free bit_and and_commutative xs ys p
 
 -- the order of two `|` is free
 or_assoc : (c a b : ℕ) → bit_or (bit_or a b) c ≡ bit_or a (bit_or b c)
@@ -94,8 +97,14 @@ or_assoc =
     let p : bit_or (bit_or a b / 2) (c / 2) ≡ bit_or (a / 2) (bit_or b c / 2) = ap (λ x. bit_or x (c / 2)) (or_shr a b 1) ∙ ih (a / 2) (b / 2) ∙ sym (ap (bit_or (a / 2)) (or_shr b c 1)) in
     omega (arith, or_step (bit_or a b) c, or_step a (bit_or b c), or_step a b, or_step b c, p))
 
+pub or_commutative : IsCommutative bit_or
+or_commutative = record { comm = or_comm; assoc = λ x y z. or_assoc z x y }
+
 pub or_folded_free : IsFoldOrderFree or_folded
-or_folded_free xs ys p = bits_folded_free bit_or (record { comm = or_comm; assoc = λ x y z. or_assoc z x y }) xs ys p
+or_folded_free xs ys p = bits_folded_free bit_or or_commutative xs ys p
+
+pub xor_commutative : IsCommutative bit_xor
+xor_commutative = record { comm = xor_comm; assoc = xor_assoc }
 
 pub xor_folded_free : IsFoldOrderFree xor_folded
-xor_folded_free xs ys p = bits_folded_free bit_xor (record { comm = xor_comm; assoc = xor_assoc }) xs ys p
+xor_folded_free xs ys p = bits_folded_free bit_xor xor_commutative xs ys p
