@@ -1,3 +1,6 @@
 pub mod Bounded
+pub mod Counts
 pub mod Fold
+pub mod Joining
+pub mod Paired
 pub mod Sums

@@ -8,10 +8,18 @@
 //! it is not (`Reducer`'s law `is_fold`, whose folds are those of `mr_defs`). The calls of a fixed combiner take no memory.
 #![tactic(auto)]
 
+mod both;
 mod combiner;
+mod count;
+mod limit;
+mod operation;
 mod single;
 mod sum;
+mod word;
 
+pub use both::Both;
 pub use combiner::{Combiner, FixedCombiner, Reducer};
+pub use count::{Count, CountCell};
+pub use operation::{And, Max, Min, One, Or, Xor};
 pub use single::{Plain, Single};
 pub use sum::{Sum, SumCell};

@@ -4,12 +4,11 @@ ghost use Rattle.mr_defs.specs.Folded.{limit, sum_folded};
 ghost use Rattle.mr_combine.specs.Sums.{sum_unit, sum_merged, sum_commutative, sum_number, sum_is_fold, sum_stays_over};
 
 use crate::combiner::{Combiner, FixedCombiner};
+use crate::limit::LIMIT;
 use crate::single::Single;
 use mr_base::Memory;
 use std::alloc::Global;
 use std::marker::Model;
-
-const LIMIT: u64 = 9223372036854775807;
 
 /// The sum of values and the sum of their magnitudes, or that the latter passed 9223372036854775807.
 #[derive(Debug, Drop)]

@@ -1,0 +1,200 @@
+ghost use Rattle.std.specs.Prelude.{◌≡◌, ℤ, List, Option, true, refl, bit_and, bit_or, bit_xor};
+ghost use Rattle.std.specs.Int.{int_min, int_max};
+ghost use Rattle.mr_defs.specs.Commutative.{IsCommutative};
+ghost use Rattle.mr_defs.specs.Emission.{Answer};
+ghost use Rattle.mr_combine.specs.Joining.{Joins, never, never_stays, joining_is_fold, numbers_join, bits_join, both_there, there_commutative, there_join};
+ghost use Rattle.mr_defs.specs.Folded.{min_folded, max_folded, one_folded, and_folded, or_folded, xor_folded};
+ghost use Rattle.mr_defs.proofs.FoldLaws.{int_min_commutative, int_max_commutative, and_commutative, or_commutative, xor_commutative};
+
+use crate::combiner::{Combiner, FixedCombiner};
+use crate::single::Single;
+use crate::word::Word;
+use mr_base::Memory;
+use std::alloc::Global;
+
+/// An operation on words in which neither order nor grouping counts. Each is a combiner that is never over.
+pub trait Operation {
+    /// What a cell keeps.
+    type Word: Word;
+
+    ghost joined: { Self.Word → Self.Word → Self.Word };
+
+    // What the values of a key fold to where there are values.
+    ghost folded: { List ℤ → Option Answer };
+
+    /// The word of both.
+    fn join(first: Self::Word, second: Self::Word) -> Self::Word
+        ensures { result ≡ joined first second };
+
+    ghost laws: { IsCommutative joined };
+
+    ghost joins: { Joins Self.Word.word_of Self.Word.number_of joined folded };
+}
+
+impl<O: Operation> Combiner for O {
+    type Value = i64;
+
+    type Cell = O::Word;
+
+    ghost unit_of = { O.Word.word_of };
+
+    ghost merged = { O.joined };
+
+    ghost over = { never };
+
+    ghost fixed = { true };
+
+    ghost laws = { O.laws };
+
+    ghost stays_over = { never_stays O.joined };
+
+    fn unit(_alloc: Global, value: i64) -> Result<O::Word, Memory> {
+        Ok(O::Word::of(value))
+    }
+
+    fn add(cell: &mut O::Word, value: i64) -> Result<(), Memory> {
+        *cell = O::join(*cell, O::Word::of(value));
+        Ok(())
+    }
+
+    fn copy(_alloc: Global, cell: &O::Word) -> Result<O::Word, Memory> {
+        Ok(*cell)
+    }
+
+    fn merge(into: &mut O::Word, from: &O::Word) -> Result<(), Memory> {
+        *into = O::join(*into, *from);
+        Ok(())
+    }
+
+    fn is_over(_cell: &O::Word) -> bool {
+        false
+    }
+}
+
+impl<O: Operation> FixedCombiner for O {
+    ghost is_fixed = { refl };
+}
+
+impl<O: Operation> Single for O {
+    ghost number_of = { O.Word.number_of };
+
+    ghost folded = { O.Operation.folded };
+
+    ghost is_fold = { joining_is_fold O.Word.word_of O.Word.number_of O.joined O.laws O.Operation.folded O.joins };
+
+    fn number(cell: &O::Word) -> i128 {
+        cell.number() as i128
+    }
+}
+
+/// Keeps the least value.
+pub struct Min;
+
+impl Operation for Min {
+    type Word = i64;
+
+    ghost joined = { int_min };
+
+    ghost folded = { min_folded };
+
+    ghost laws = { int_min_commutative };
+
+    ghost joins = { numbers_join int_min };
+
+    fn join(first: i64, second: i64) -> i64 {
+        first.min(second)
+    }
+}
+
+/// Keeps the greatest value.
+pub struct Max;
+
+impl Operation for Max {
+    type Word = i64;
+
+    ghost joined = { int_max };
+
+    ghost folded = { max_folded };
+
+    ghost laws = { int_max_commutative };
+
+    ghost joins = { numbers_join int_max };
+
+    fn join(first: i64, second: i64) -> i64 {
+        first.max(second)
+    }
+}
+
+/// Keeps that there is a value, and answers 1.
+pub struct One;
+
+impl Operation for One {
+    type Word = ();
+
+    ghost joined = { both_there };
+
+    ghost folded = { one_folded };
+
+    ghost laws = { there_commutative };
+
+    ghost joins = { there_join };
+
+    fn join(_first: (), _second: ()) {}
+}
+
+/// Keeps the bits in two's complement that all values have.
+pub struct And;
+
+impl Operation for And {
+    type Word = u64;
+
+    ghost joined = { bit_and };
+
+    ghost folded = { and_folded };
+
+    ghost laws = { and_commutative };
+
+    ghost joins = { bits_join bit_and };
+
+    fn join(first: u64, second: u64) -> u64 {
+        first & second
+    }
+}
+
+/// Keeps the bits in two's complement that some value has.
+pub struct Or;
+
+impl Operation for Or {
+    type Word = u64;
+
+    ghost joined = { bit_or };
+
+    ghost folded = { or_folded };
+
+    ghost laws = { or_commutative };
+
+    ghost joins = { bits_join bit_or };
+
+    fn join(first: u64, second: u64) -> u64 {
+        first | second
+    }
+}
+
+/// Keeps the bits in two's complement that an odd number of values has.
+pub struct Xor;
+
+impl Operation for Xor {
+    type Word = u64;
+
+    ghost joined = { bit_xor };
+
+    ghost folded = { xor_folded };
+
+    ghost laws = { xor_commutative };
+
+    ghost joins = { bits_join bit_xor };
+
+    fn join(first: u64, second: u64) -> u64 {
+        first ^ second
+    }
+}

@@ -1,0 +1,60 @@
+ghost use Rattle.std.specs.Prelude.{◌≡◌, ℤ, pos};
+ghost use Rattle.std.specs.Int.{cast_signed, cast_unsigned, w64};
+
+/// What a cell of one word keeps of a number, and the number that it answers.
+pub trait Word: Copy + Drop {
+    ghost word_of: { ℤ → Self };
+
+    ghost number_of: { Self → ℤ };
+
+    /// The word of a number.
+    fn of(value: i64) -> Self
+        ensures { result ≡ word_of value };
+
+    /// The number of a word.
+    fn number(self) -> i64
+        ensures { result ≡ number_of self };
+}
+
+/// The number itself.
+impl Word for i64 {
+    ghost word_of = { λ v. v };
+
+    ghost number_of = { λ w. w };
+
+    fn of(value: i64) -> i64 {
+        value
+    }
+
+    fn number(self) -> i64 {
+        self
+    }
+}
+
+/// The bits in two's complement.
+impl Word for u64 {
+    ghost word_of = { cast_unsigned w64 };
+
+    ghost number_of = { cast_signed w64 };
+
+    fn of(value: i64) -> u64 {
+        value.cast_unsigned()
+    }
+
+    fn number(self) -> i64 {
+        self.cast_signed()
+    }
+}
+
+/// That there is a number. It answers 1.
+impl Word for () {
+    ghost word_of = { λ _. tt };
+
+    ghost number_of = { λ _. pos 1 };
+
+    fn of(_value: i64) {}
+
+    fn number(self) -> i64 {
+        1
+    }
+}
