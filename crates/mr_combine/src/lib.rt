@@ -9,17 +9,21 @@
 #![tactic(auto)]
 
 mod both;
+mod buffer;
 mod combiner;
 mod count;
 mod limit;
 mod operation;
+mod order;
 mod single;
 mod sum;
 mod word;
 
 pub use both::Both;
+pub use buffer::{Buffer, BufferCell};
 pub use combiner::{Combiner, FixedCombiner, Reducer};
 pub use count::{Count, CountCell};
 pub use operation::{And, Max, Min, One, Or, Xor};
+pub use order::{Distinct, List, Median};
 pub use single::{Plain, Single};
 pub use sum::{Sum, SumCell};
