@@ -1,5 +1,5 @@
 -- Sorted values are in order, and without repetition they are the different ones.
-use Rattle.std.specs.Prelude.{◌≡◌, ℕ, ◌+◌, ◌-◌, ◌/◌, ◌<◌, ◌≤◌, suc, true, false, cond, if◌then◌else◌, ℤ, pos, List, [], ◌∷◌, ◌++◌, fold, length, get_or, Option, Some, None, IfSome}
+use Rattle.std.specs.Prelude.{◌≡◌, ℕ, ◌+◌, suc, false, cond, if◌then◌else◌, ℤ, List, [], ◌∷◌, fold, get_or}
 use Rattle.std.specs.declared.cmp.Ordering.{Ordering}
 use Rattle.std.specs.declared.cmp.Ordering.TheVariants.{Less, Equal, Greater}
 use Rattle.std.specs.Ordering.{is_lt, is_gt, is_eq, eq_by_cmp, ordering_reverse, match_ordering, int_cmp, int_eq}
@@ -8,17 +8,10 @@ use Rattle.std.specs.FinMap.{IsAntisymmetric, int_cmp-IsAntisymmetric}
 use Rattle.std.specs.BTreeSet.{insert_key}
 use Rattle.std.specs.List.{AllByRecursion, dedup, dedup_from}
 use Rattle.std.specs.List.Sorted.{IsPermutation, IsSorted}
-use Rattle.std.proofs.Common.{refl, sym, ap, subst, ◌∙◌, arith, add-one, append_assoc}
-use Rattle.std.proofs.lemmas.List.Sorted.{IsPermutation-refl, IsPermutation-sym, IsPermutation-trans, IsPermutation-cons, IsPermutation-insert, IsPermutation-append_left, IsPermutation-append_right, IsPermutation-append_comm, length_permutation}
+use Rattle.std.proofs.Common.{refl, sym, ap, subst, ◌∙◌, arith}
 use mathlib.Core.Bool.{true≢false}
-use Rattle.mr_defs.specs.Commutative.{IsCommutative, joined}
-use Rattle.mr_defs.specs.Emission.{Answer}
-use Rattle.mr_defs.specs.Folded.{in_order, put_in_order, list_folded, distinct_folded, median_folded}
+use Rattle.mr_defs.specs.Folded.{in_order, put_in_order}
 use Rattle.mr_defs.specs.Keyed.{ascending}
-use Rattle.mr_defs.specs.Stands.{cell_of}
-use Rattle.mr_defs.proofs.Folds.{IsOrderFree}
-use Rattle.mr_defs.proofs.InOrder.{put_in_order_free}
-use Rattle.mr_defs.proofs.Ascending.{ascending-IsPermutation}
 use Rattle.mr_defs.proofs.FoldLaws.{in_order-IsPermutation}
 use Rattle.mr_combine.specs.Ordered.{in_order_next}
 

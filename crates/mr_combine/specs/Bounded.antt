@@ -1,12 +1,12 @@
 -- A combination that is given up once it passes a bound, and stays so.
-use Rattle.std.specs.Prelude.{◌≡◌, Bool, true, false, List, [], ◌∷◌, if◌then◌else◌, Option, Some, None, IfSome}
+use Rattle.std.specs.Prelude.{◌≡◌, Bool, true, false, List, if◌then◌else◌, Option, Some, None}
 use Rattle.std.specs.Option.{is_none}
-use Rattle.std.proofs.Common.{refl, sym, ap, subst, ◌∙◌}
+use Rattle.std.proofs.Common.{refl, sym, ap, ◌∙◌}
 use mathlib.Core.Bool.{false≢true}
-use Rattle.mr_defs.specs.Commutative.{IsCommutative, joined}
+use Rattle.mr_defs.specs.Commutative.{IsCommutative}
 use Rattle.mr_defs.specs.Emission.{Answer}
-use Rattle.mr_defs.specs.Stands.{cell_of}
 use Rattle.mr_combine.specs.Fold.{outcome, IsFoldOf}
+use Rattle.mr_combine.specs.Cells.{IsTotal, total_is_fold}
 
 -- a where it is within the bound
 abbrev pub within : {A : Type 0} → (A → Bool) → A → Option A
@@ -21,11 +21,6 @@ joined_within fits op (Some a) (Some b) = within fits (op a b)
 -- what is past the bound does not come back
 abbrev pub IsBound : {A : Type 0} → (A → Bool) → (A → A → A) → Type 0
 IsBound {A} fits op = (a b : A) → fits (op a b) ≡ true → fits a ≡ true
-
--- what a list of values comes to, where each value comes to g of it
-pub record IsTotal {V A : Type 0} (op : A → A → A) (g : V → A) (total : List V → A) : Type 0 where
-  pub one : (v : V) → op (g v) (total []) ≡ g v
-  pub more : (v : V) (vs : List V) → total (v ∷ vs) ≡ op (g v) (total vs)
 
 module _ {A : Type 0} (fits : A → Bool) (op : A → A → A) where
   none_right : (a : Option A) → joined_within fits op a None ≡ None
@@ -68,30 +63,18 @@ module _ {A : Type 0} (fits : A → Bool) (op : A → A → A) (laws : IsCommuta
   pub within_commutative : IsCommutative (joined_within fits op)
   within_commutative = record { comm = within_comm; assoc = within_assoc }
 
-  within_both : (a b : A) → joined_within fits op (within fits a) (within fits b) ≡ within fits (op a b)
+  pub within_both : (a b : A) → joined_within fits op (within fits a) (within fits b) ≡ within fits (op a b)
   within_both a b = by (fits b) refl
     where
       by : (t : Bool) → fits b ≡ t → joined_within fits op (within fits a) (if t then Some b else None) ≡ within fits (op a b)
       by true e = with_third a b
       by false e = none_right fits op (within fits a) ∙ past b a e (fits (op b a)) refl ∙ ap (within fits) (laws.comm b a)
 
-  module _ {V : Type 0} (g : V → A) (total : List V → A) (sums : IsTotal op g total) where
-    pub total_within : (v : V) (vs : List V) → cell_of (λ x. within fits (g x)) (joined_within fits op) (v ∷ vs) ≡ Some (within fits (total (v ∷ vs)))
-    total_within v [] = ap (λ a. Some (within fits a)) (sym (sums.more v [] ∙ sums.one v))
-    total_within v (w ∷ ws) =
-        ap (joined (joined_within fits op) (Some (within fits (g v)))) (total_within w ws)
-        ∙ ap Some (within_both (g v) (total (w ∷ ws)))
-        ∙ ap (λ a. Some (within fits a)) (sym (sums.more v (w ∷ ws)))
+  module _ {V : Type 0} (g : V → A) (total : List V → A) (sums : IsTotal op g total) (answer : Option A → Answer) where
+    within_outcome : (a : A) (b : Bool) → (if b then Some (answer (Some a)) else None) ≡ outcome is_none answer (if b then Some a else None)
+    within_outcome a true = refl
+    within_outcome a false = refl
 
-    module _ (answer : Option A → Answer) where
-      outcome_within : (a : A) (b : Bool) → (if b then Some (answer (Some a)) else None) ≡ outcome is_none answer (if b then Some a else None)
-      outcome_within a true = refl
-      outcome_within a false = refl
-
-      -- the fold of values, where it is what their total answers if that is within the bound
-      abbrev folded_within : List V → Option Answer
-      folded_within vs = if fits (total vs) then Some (answer (Some (total vs))) else None
-
-      pub fold_within : IsFoldOf (λ x. within fits (g x)) (joined_within fits op) is_none answer folded_within
-      fold_within [] = tt
-      fold_within (v ∷ vs) = subst (λ c. IfSome c (λ c. folded_within (v ∷ vs) ≡ outcome is_none answer c)) (sym (total_within v vs)) (outcome_within (total (v ∷ vs)) (fits (total (v ∷ vs))))
+    -- the fold is what the total of the values answers where it is within the bound
+    pub within_is_fold : IsFoldOf (λ v. within fits (g v)) (joined_within fits op) is_none answer (λ vs. if fits (total vs) then Some (answer (Some (total vs))) else None)
+    within_is_fold = total_is_fold op g (joined_within fits op) (λ v. within fits (g v)) (within fits) (λ v. refl) within_both total sums is_none answer (λ vs. if fits (total vs) then Some (answer (Some (total vs))) else None) (λ vs. within_outcome (total vs) (fits (total vs)))

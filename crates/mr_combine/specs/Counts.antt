@@ -6,7 +6,8 @@ use Rattle.std.proofs.lemmas.Bool.Decides.{nat_tests}
 use Rattle.mr_defs.specs.Commutative.{IsCommutative}
 use Rattle.mr_defs.specs.Folded.{limit, count_folded}
 use Rattle.mr_combine.specs.Fold.{IsFoldOf}
-use Rattle.mr_combine.specs.Bounded.{within, joined_within, IsBound, IsTotal, within_commutative, fold_within, over_stays}
+use Rattle.mr_combine.specs.Cells.{IsTotal}
+use Rattle.mr_combine.specs.Bounded.{within, joined_within, IsBound, within_commutative, within_is_fold, over_stays, within_both}
 
 abbrev pub count_fits : ℕ → Bool
 count_fits n = nat_le n limit
@@ -34,8 +35,11 @@ count_commutative = within_commutative count_fits ◌+◌ plus_commutative count
 pub count_stays_over : (a b : Option ℕ) → is_none a ≡ true → is_none (count_merged a b) ≡ true
 count_stays_over a b h = over_stays count_fits ◌+◌ a b h
 
-length_total : {V : Type 0} → IsTotal {V = V} ◌+◌ (λ v. 1) length
+pub counts_join : (m n : ℕ) → count_merged (within count_fits m) (within count_fits n) ≡ within count_fits (m + n)
+counts_join m n = within_both count_fits ◌+◌ plus_commutative count_bound m n
+
+pub length_total : {V : Type 0} → IsTotal {V = V} ◌+◌ (λ v. 1) length
 length_total = record { one = λ v. refl; more = λ v vs. omega arith }
 
 pub count_is_fold : IsFoldOf count_unit count_merged is_none (λ c. count_number c ∷ []) count_folded
-count_is_fold = fold_within count_fits ◌+◌ plus_commutative count_bound (λ v. 1) length length_total (λ c. count_number c ∷ [])
+count_is_fold = within_is_fold count_fits ◌+◌ plus_commutative count_bound (λ v. 1) length length_total (λ c. count_number c ∷ [])

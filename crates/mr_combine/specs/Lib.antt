@@ -1,7 +1,9 @@
 pub mod Bounded
+pub mod Cells
 pub mod Counts
 pub mod Fold
 pub mod Joining
 pub mod Ordered
 pub mod Paired
+pub mod Points
 pub mod Sums

@@ -1,26 +1,22 @@
 -- Values that are kept and put in order.
-use Rattle.std.specs.Prelude.{◌≡◌, ℕ, ◌+◌, ◌-◌, ◌/◌, ◌<◌, ◌≤◌, suc, true, false, cond, if◌then◌else◌, ℤ, pos, List, [], ◌∷◌, ◌++◌, fold, length, get_or, Option, Some, None, IfSome}
+use Rattle.std.specs.Prelude.{◌≡◌, ◌-◌, ◌/◌, true, false, if◌then◌else◌, ℤ, pos, List, [], ◌∷◌, ◌++◌, fold, length, get_or, Option, Some}
 use Rattle.std.specs.declared.cmp.Ordering.{Ordering}
-use Rattle.std.specs.declared.cmp.Ordering.TheVariants.{Less, Equal, Greater}
-use Rattle.std.specs.Ordering.{is_lt, is_gt, is_eq, eq_by_cmp, ordering_reverse, match_ordering, int_cmp, int_eq}
-use Rattle.std.specs.Cmp.{IsTotalOrder, upto, alike_right, int_cmp_total}
+use Rattle.std.specs.Ordering.{is_gt, int_cmp}
+use Rattle.std.specs.Cmp.{IsTotalOrder, int_cmp_total}
 use Rattle.std.specs.FinMap.{IsAntisymmetric, int_cmp-IsAntisymmetric}
-use Rattle.std.specs.BTreeSet.{insert_key}
-use Rattle.std.specs.List.{AllByRecursion, dedup, dedup_from}
-use Rattle.std.specs.List.Sorted.{IsPermutation, IsSorted}
-use Rattle.std.proofs.Common.{refl, sym, ap, subst, ◌∙◌, arith, add-one, append_assoc}
-use Rattle.std.proofs.lemmas.List.Sorted.{IsPermutation-refl, IsPermutation-sym, IsPermutation-trans, IsPermutation-cons, IsPermutation-insert, IsPermutation-append_left, IsPermutation-append_right, IsPermutation-append_comm, length_permutation}
-use mathlib.Core.Bool.{true≢false}
-use Rattle.mr_defs.specs.Commutative.{IsCommutative, joined}
+use Rattle.std.specs.List.Sorted.{IsPermutation}
+use Rattle.std.proofs.Common.{refl, sym, ap, subst, ◌∙◌, append_assoc}
+use Rattle.std.proofs.lemmas.List.Sorted.{IsPermutation-refl, IsPermutation-trans, IsPermutation-cons, IsPermutation-insert, IsPermutation-append_left, IsPermutation-append_right, IsPermutation-append_comm, length_permutation}
+use Rattle.mr_defs.specs.Commutative.{IsCommutative}
 use Rattle.mr_defs.specs.Emission.{Answer}
 use Rattle.mr_defs.specs.Folded.{in_order, put_in_order, list_folded, distinct_folded, median_folded}
 use Rattle.mr_defs.specs.Keyed.{ascending}
-use Rattle.mr_defs.specs.Stands.{cell_of}
 use Rattle.mr_defs.proofs.Folds.{IsOrderFree}
 use Rattle.mr_defs.proofs.InOrder.{put_in_order_free}
 use Rattle.mr_defs.proofs.Ascending.{ascending-IsPermutation}
 use Rattle.mr_defs.proofs.FoldLaws.{in_order-IsPermutation}
-use Rattle.mr_combine.specs.Fold.{outcome, IsFoldOf}
+use Rattle.mr_combine.specs.Cells.{IsTotal, total_is_fold}
+use Rattle.mr_combine.specs.Fold.{IsFoldOf}
 use Rattle.mr_combine.specs.Joining.{never}
 
 fold_first : {A X : Type 0} (f : A → X → A) (free : IsOrderFree f) (a : A) (x : X) (xs : List X) → fold f (f a x) xs ≡ f (fold f a xs) x
@@ -68,13 +64,14 @@ buffer_commutative = record {
   assoc = λ xs ys zs. left_in_order (xs ++ ys) zs ∙ ap in_order (append_assoc xs ys zs) ∙ sym (right_in_order xs (ys ++ zs));
 }
 
-buffer_cell : (v : ℤ) (vs : List ℤ) → cell_of buffer_unit buffer_merged (v ∷ vs) ≡ Some (in_order (v ∷ vs))
-buffer_cell v [] = refl
-buffer_cell v (w ∷ ws) = ap (joined buffer_merged (Some (v ∷ []))) (buffer_cell w ws) ∙ ap Some (right_in_order (v ∷ []) (w ∷ ws))
+both_in_order : (xs ys : List ℤ) → buffer_merged (in_order xs) (in_order ys) ≡ in_order (xs ++ ys)
+both_in_order xs ys = left_in_order xs (in_order ys) ∙ right_in_order xs ys
+
+values_total : IsTotal {V = ℤ} {A = List ℤ} ◌++◌ (λ v. v ∷ []) (λ vs. vs)
+values_total = record { one = λ v. refl; more = λ v vs. refl }
 
 buffer_is_fold : (answer : List ℤ → Answer) (folded : List ℤ → Option Answer) → ((vs : List ℤ) → folded vs ≡ Some (answer (in_order vs))) → IsFoldOf buffer_unit buffer_merged never answer folded
-buffer_is_fold answer folded is [] = tt
-buffer_is_fold answer folded is (v ∷ vs) = subst (λ c. IfSome c (λ c. folded (v ∷ vs) ≡ outcome never answer c)) (sym (buffer_cell v vs)) (is (v ∷ vs))
+buffer_is_fold answer folded is = total_is_fold ◌++◌ buffer_unit buffer_merged buffer_unit in_order (λ v. refl) both_in_order (λ vs. vs) values_total never answer folded is
 
 abbrev pub list_answer : List ℤ → Answer
 list_answer vs = vs

@@ -1,9 +1,10 @@
 -- Two combiners side by side.
 use Rattle.std.specs.Prelude.{◌≡◌, Bool, true, false, ◌||◌, ℤ, List, [], ◌∷◌, ◌++◌, if◌then◌else◌, Option, Some, None, option_map, option_and_then, IfSome}
 use Rattle.std.proofs.Common.{refl, ap, subst, ◌∙◌}
-use Rattle.mr_defs.specs.Commutative.{IsCommutative, joined}
+use Rattle.mr_defs.specs.Commutative.{IsCommutative}
 use Rattle.mr_defs.specs.Emission.{Answer}
 use Rattle.mr_defs.specs.Stands.{cell_of}
+use Rattle.mr_combine.specs.Cells.{cell_read}
 use Rattle.mr_combine.specs.Fold.{outcome, IsFoldOf}
 
 abbrev pub side_by_side : {A B : Type 0} → (A → A → A) → (B → B → B) → A × B → A × B → A × B
@@ -37,21 +38,11 @@ module _ {V A B : Type 0} (a : V → A) (b : V → B) (f : A → A → A) (g : B
   abbrev both : List V → Option (A × B)
   both vs = cell_of (λ v. (a v, b v)) (side_by_side f g) vs
 
-  first_joined : (v : V) (o : Option (A × B)) → joined f (Some (a v)) (option_map (λ c. c.0) o) ≡ option_map (λ c. c.0) (joined (side_by_side f g) (Some (a v, b v)) o)
-  first_joined v None = refl
-  first_joined v (Some c) = refl
+  first_cell : (vs : List V) → cell_of a f vs ≡ option_map (λ c. c.0) (both vs)
+  first_cell vs = cell_read (side_by_side f g) (λ v. (a v, b v)) f a (λ c. c.0) (λ v. refl) (λ x y. refl) vs
 
-  second_joined : (v : V) (o : Option (A × B)) → joined g (Some (b v)) (option_map (λ c. c.1) o) ≡ option_map (λ c. c.1) (joined (side_by_side f g) (Some (a v, b v)) o)
-  second_joined v None = refl
-  second_joined v (Some c) = refl
-
-  pub first_cell : (vs : List V) → cell_of a f vs ≡ option_map (λ c. c.0) (both vs)
-  first_cell [] = refl
-  first_cell (v ∷ vs) = ap (joined f (Some (a v))) (first_cell vs) ∙ first_joined v (both vs)
-
-  pub second_cell : (vs : List V) → cell_of b g vs ≡ option_map (λ c. c.1) (both vs)
-  second_cell [] = refl
-  second_cell (v ∷ vs) = ap (joined g (Some (b v))) (second_cell vs) ∙ second_joined v (both vs)
+  second_cell : (vs : List V) → cell_of b g vs ≡ option_map (λ c. c.1) (both vs)
+  second_cell vs = cell_read (side_by_side f g) (λ v. (a v, b v)) g b (λ c. c.1) (λ v. refl) (λ x y. refl) vs
 
   module _ (o : A → Bool) (u : B → Bool) (n : A → ℤ) (m : B → ℤ) where
     outcomes : (c : A × B) (s t : Bool)

@@ -8,7 +8,8 @@ use Rattle.std.proofs.lemmas.Bool.Decides.{nat_tests}
 use Rattle.mr_defs.specs.Commutative.{IsCommutative}
 use Rattle.mr_defs.specs.Folded.{total, magnitude, sum_up_to}
 use Rattle.mr_combine.specs.Fold.{IsFoldOf}
-use Rattle.mr_combine.specs.Bounded.{within, joined_within, IsBound, IsTotal, within_commutative, fold_within, over_stays}
+use Rattle.mr_combine.specs.Cells.{IsTotal}
+use Rattle.mr_combine.specs.Bounded.{within, joined_within, IsBound, within_commutative, within_is_fold, over_stays, within_both}
 
 -- a sum and the sum of the magnitudes
 abbrev pub Summed : Type 0
@@ -52,6 +53,9 @@ sum_stays_over most a b h = over_stays (sum_fits most) summed a b h
 pub sum_commutative : (most : ℕ) → IsCommutative (sum_merged most)
 sum_commutative most = within_commutative (sum_fits most) summed summed_commutative (sum_bound most)
 
+pub sums_join : (most : ℕ) (a b : Summed) → sum_merged most (within (sum_fits most) a) (within (sum_fits most) b) ≡ within (sum_fits most) (summed a b)
+sums_join most a b = within_both (sum_fits most) summed summed_commutative (sum_bound most) a b
+
 sum_from : (s : ℤ) (vs : List ℤ) → fold ◌+ℤ◌ s vs ≡ s +ℤ total vs
 sum_from s [] = sym (+ℤ_idr s)
 sum_from s (v ∷ vs) =
@@ -59,7 +63,7 @@ sum_from s (v ∷ vs) =
     ∙ +ℤ_assoc s v (total vs)
     ∙ ap (λ t. s +ℤ t) (ap (λ t. t +ℤ total vs) (sym (+ℤ_idl v)) ∙ sym (sum_from (pos 0 +ℤ v) vs))
 
-sum_total : IsTotal summed (λ v. (v, nat_abs v)) (λ vs. (total vs, magnitude vs))
+pub sum_total : IsTotal summed (λ v. (v, nat_abs v)) (λ vs. (total vs, magnitude vs))
 sum_total = record {
   one = λ v. λ i. (+ℤ_idr v i, no_more (nat_abs v) i);
   more = λ v vs. λ i. ((sum_from (pos 0 +ℤ v) vs ∙ ap (λ t. t +ℤ total vs) (+ℤ_idl v)) i, sum_by-cons nat_abs v vs i);
@@ -69,4 +73,4 @@ sum_total = record {
     no_more m = omega arith
 
 pub sum_is_fold : (most : ℕ) → IsFoldOf (sum_unit most) (sum_merged most) is_none (λ c. sum_number c ∷ []) (sum_up_to most)
-sum_is_fold most = fold_within (sum_fits most) summed summed_commutative (sum_bound most) (λ v. (v, nat_abs v)) (λ vs. (total vs, magnitude vs)) sum_total (λ c. sum_number c ∷ [])
+sum_is_fold most = within_is_fold (sum_fits most) summed summed_commutative (sum_bound most) (λ v. (v, nat_abs v)) (λ vs. (total vs, magnitude vs)) sum_total (λ c. sum_number c ∷ [])

@@ -1,10 +1,11 @@
 ghost use Rattle.std.specs.Prelude.{◌≡◌, true, refl};
 ghost use Rattle.std.specs.Option.{is_none};
 ghost use Rattle.mr_defs.specs.Folded.{count_folded};
-ghost use Rattle.mr_combine.specs.Counts.{count_unit, count_merged, count_commutative, count_number, count_is_fold, count_stays_over};
+ghost use Rattle.mr_combine.specs.Bounded.{within};
+ghost use Rattle.mr_combine.specs.Counts.{count_fits, count_unit, count_merged, count_commutative, count_number, count_is_fold, count_stays_over};
 
+use crate::LIMIT;
 use crate::combiner::{Combiner, FixedCombiner};
-use crate::limit::LIMIT;
 use crate::single::Single;
 use mr_base::Memory;
 use std::alloc::Global;
@@ -24,6 +25,47 @@ impl Model for CountCell {
     ghost Value = { Option ℕ };
 
     ghost view = { λ c. within count_fits c.count };
+}
+
+impl CountCell {
+    /// Of one value.
+    pub fn one() -> CountCell
+        ensures { result ≡ within count_fits 1 }
+    {
+        CountCell { count: 1 }
+    }
+
+    /// The same number.
+    pub fn copy(&self) -> CountCell
+        ensures { result ≡ self.now }
+    {
+        CountCell { count: self.count }
+    }
+
+    /// Adds another number.
+    pub fn merge(&mut self, from: &CountCell)
+        ensures { self.new ≡ count_merged self.old from.now }
+    {
+        self.count = self.count.saturating_add(from.count);
+    }
+
+    /// Whether the number passed the limit.
+    pub fn is_over(&self) -> bool
+        ensures { result ≡ is_none self.now }
+    {
+        self.count > LIMIT
+    }
+
+    /// The number, or 0 where it is over.
+    pub fn number(&self) -> i128
+        ensures { result ≡ count_number self.now }
+    {
+        if self.is_over() {
+            0
+        } else {
+            self.count as i128
+        }
+    }
 }
 
 /// Counts the values of a key. Over where there are more than 9223372036854775807.
@@ -47,25 +89,25 @@ impl Combiner for Count {
     ghost stays_over = { count_stays_over };
 
     fn unit(_alloc: Global, _value: i64) -> Result<CountCell, Memory> {
-        Ok(CountCell { count: 1 })
+        Ok(CountCell::one())
     }
 
     fn add(cell: &mut CountCell, _value: i64) -> Result<(), Memory> {
-        cell.count = cell.count.saturating_add(1);
+        cell.merge(&CountCell::one());
         Ok(())
     }
 
     fn copy(_alloc: Global, cell: &CountCell) -> Result<CountCell, Memory> {
-        Ok(CountCell { count: cell.count })
+        Ok(cell.copy())
     }
 
     fn merge(into: &mut CountCell, from: &CountCell) -> Result<(), Memory> {
-        into.count = into.count.saturating_add(from.count);
+        into.merge(from);
         Ok(())
     }
 
     fn is_over(cell: &CountCell) -> bool {
-        cell.count > LIMIT
+        cell.is_over()
     }
 }
 
@@ -81,6 +123,6 @@ impl Single for Count {
     ghost is_fold = { count_is_fold };
 
     fn number(cell: &CountCell) -> i128 {
-        cell.count as i128
+        cell.number()
     }
 }

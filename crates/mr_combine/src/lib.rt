@@ -11,19 +11,24 @@
 mod both;
 mod buffer;
 mod combiner;
+mod coordinates;
 mod count;
-mod limit;
 mod operation;
-mod order;
+mod points;
+mod reducers;
+mod scalar;
 mod single;
 mod sum;
-mod word;
 
 pub use both::Both;
 pub use buffer::{Buffer, BufferCell};
 pub use combiner::{Combiner, FixedCombiner, Reducer};
 pub use count::{Count, CountCell};
 pub use operation::{And, Max, Min, One, Or, Xor};
-pub use order::{Distinct, List, Median};
+pub use points::{Point, VecSum, VecSumCell};
+pub use reducers::{Distinct, List, Median};
 pub use single::{Plain, Single};
 pub use sum::{Sum, SumCell};
+
+/// What neither the number of the values of a key nor the sum of their magnitudes may pass.
+const LIMIT: u64 = 9223372036854775807;

@@ -7,36 +7,36 @@ ghost use Rattle.mr_defs.specs.Folded.{min_folded, max_folded, one_folded, and_f
 ghost use Rattle.mr_defs.proofs.FoldLaws.{int_min_commutative, int_max_commutative, and_commutative, or_commutative, xor_commutative};
 
 use crate::combiner::{Combiner, FixedCombiner};
+use crate::scalar::Scalar;
 use crate::single::Single;
-use crate::word::Word;
 use mr_base::Memory;
 use std::alloc::Global;
 
-/// An operation on words in which neither order nor grouping counts. Each is a combiner that is never over.
+/// An operation in which neither order nor grouping counts. Each is a combiner that is never over.
 pub trait Operation {
     /// What a cell keeps.
-    type Word: Word;
+    type Scalar: Scalar;
 
-    ghost joined: { Self.Word → Self.Word → Self.Word };
+    ghost joined: { Self.Scalar → Self.Scalar → Self.Scalar };
 
     // What the values of a key fold to where there are values.
     ghost folded: { List ℤ → Option Answer };
 
-    /// The word of both.
-    fn join(first: Self::Word, second: Self::Word) -> Self::Word
+    /// What both come to.
+    fn join(first: Self::Scalar, second: Self::Scalar) -> Self::Scalar
         ensures { result ≡ joined first second };
 
     ghost laws: { IsCommutative joined };
 
-    ghost joins: { Joins Self.Word.word_of Self.Word.number_of joined folded };
+    ghost joins: { Joins Self.Scalar.scalar_of Self.Scalar.number_of joined folded };
 }
 
 impl<O: Operation> Combiner for O {
     type Value = i64;
 
-    type Cell = O::Word;
+    type Cell = O::Scalar;
 
-    ghost unit_of = { O.Word.word_of };
+    ghost unit_of = { O.Scalar.scalar_of };
 
     ghost merged = { O.joined };
 
@@ -48,25 +48,25 @@ impl<O: Operation> Combiner for O {
 
     ghost stays_over = { never_stays O.joined };
 
-    fn unit(_alloc: Global, value: i64) -> Result<O::Word, Memory> {
-        Ok(O::Word::of(value))
+    fn unit(_alloc: Global, value: i64) -> Result<O::Scalar, Memory> {
+        Ok(O::Scalar::of(value))
     }
 
-    fn add(cell: &mut O::Word, value: i64) -> Result<(), Memory> {
-        *cell = O::join(*cell, O::Word::of(value));
+    fn add(cell: &mut O::Scalar, value: i64) -> Result<(), Memory> {
+        *cell = O::join(*cell, O::Scalar::of(value));
         Ok(())
     }
 
-    fn copy(_alloc: Global, cell: &O::Word) -> Result<O::Word, Memory> {
+    fn copy(_alloc: Global, cell: &O::Scalar) -> Result<O::Scalar, Memory> {
         Ok(*cell)
     }
 
-    fn merge(into: &mut O::Word, from: &O::Word) -> Result<(), Memory> {
+    fn merge(into: &mut O::Scalar, from: &O::Scalar) -> Result<(), Memory> {
         *into = O::join(*into, *from);
         Ok(())
     }
 
-    fn is_over(_cell: &O::Word) -> bool {
+    fn is_over(_cell: &O::Scalar) -> bool {
         false
     }
 }
@@ -76,13 +76,13 @@ impl<O: Operation> FixedCombiner for O {
 }
 
 impl<O: Operation> Single for O {
-    ghost number_of = { O.Word.number_of };
+    ghost number_of = { O.Scalar.number_of };
 
     ghost folded = { O.Operation.folded };
 
-    ghost is_fold = { joining_is_fold O.Word.word_of O.Word.number_of O.joined O.laws O.Operation.folded O.joins };
+    ghost is_fold = { joining_is_fold O.Scalar.scalar_of O.Scalar.number_of O.joined O.laws O.Operation.folded O.joins };
 
-    fn number(cell: &O::Word) -> i128 {
+    fn number(cell: &O::Scalar) -> i128 {
         cell.number() as i128
     }
 }
@@ -91,7 +91,7 @@ impl<O: Operation> Single for O {
 pub struct Min;
 
 impl Operation for Min {
-    type Word = i64;
+    type Scalar = i64;
 
     ghost joined = { int_min };
 
@@ -110,7 +110,7 @@ impl Operation for Min {
 pub struct Max;
 
 impl Operation for Max {
-    type Word = i64;
+    type Scalar = i64;
 
     ghost joined = { int_max };
 
@@ -129,7 +129,7 @@ impl Operation for Max {
 pub struct One;
 
 impl Operation for One {
-    type Word = ();
+    type Scalar = ();
 
     ghost joined = { both_there };
 
@@ -146,7 +146,7 @@ impl Operation for One {
 pub struct And;
 
 impl Operation for And {
-    type Word = u64;
+    type Scalar = u64;
 
     ghost joined = { bit_and };
 
@@ -165,7 +165,7 @@ impl Operation for And {
 pub struct Or;
 
 impl Operation for Or {
-    type Word = u64;
+    type Scalar = u64;
 
     ghost joined = { bit_or };
 
@@ -184,7 +184,7 @@ impl Operation for Or {
 pub struct Xor;
 
 impl Operation for Xor {
-    type Word = u64;
+    type Scalar = u64;
 
     ghost joined = { bit_xor };
 

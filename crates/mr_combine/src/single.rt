@@ -1,4 +1,4 @@
-ghost use Rattle.std.specs.Prelude.{◌≡◌, ℤ, List, [], ◌∷◌, false, Option};
+ghost use Rattle.std.specs.Prelude.{◌≡◌, ℤ, List, [], ◌∷◌, Option};
 ghost use Rattle.mr_defs.specs.Emission.{Answer};
 ghost use Rattle.mr_combine.specs.Fold.{IsFoldOf};
 
@@ -13,9 +13,9 @@ pub trait Single: FixedCombiner<Value = i64> {
     // What the values of a key fold to where there are values, or None where they are over.
     ghost folded: { List ℤ → Option Answer };
 
-    /// The number that a cell answers. Of a cell that is over it means nothing.
+    /// The number that a cell answers, or 0 where it is over.
     fn number(cell: &Self::Cell) -> i128
-        ensures { Self.over cell.now ≡ false → result ≡ number_of cell.now };
+        ensures { result ≡ number_of cell.now };
 
     ghost is_fold: { IsFoldOf Self.unit_of Self.merged Self.over (λ c. number_of c ∷ []) folded };
 }

@@ -1,10 +1,11 @@
-ghost use Rattle.std.specs.Prelude.{◌≡◌, ℤ, pos, true, refl};
+ghost use Rattle.std.specs.Prelude.{◌≡◌, ◌≤◌, nat_abs, true, refl};
 ghost use Rattle.std.specs.Option.{is_none};
 ghost use Rattle.mr_defs.specs.Folded.{limit, sum_folded};
-ghost use Rattle.mr_combine.specs.Sums.{sum_unit, sum_merged, sum_commutative, sum_number, sum_is_fold, sum_stays_over};
+ghost use Rattle.mr_combine.specs.Bounded.{within};
+ghost use Rattle.mr_combine.specs.Sums.{sum_fits, sum_unit, sum_merged, sum_commutative, sum_number, sum_is_fold, sum_stays_over};
 
+use crate::LIMIT;
 use crate::combiner::{Combiner, FixedCombiner};
-use crate::limit::LIMIT;
 use crate::single::Single;
 use mr_base::Memory;
 use std::alloc::Global;
@@ -30,6 +31,68 @@ impl Model for SumCell {
     ghost invariant = { λ c. c.magnitudes ≤ limit → nat_abs c.sum ≤ c.magnitudes };
 }
 
+impl SumCell {
+    /// The sum of one value.
+    pub fn of(value: i64) -> SumCell
+        ensures { result ≡ sum_unit limit value }
+    {
+        SumCell {
+            sum: value,
+            magnitudes: value.unsigned_abs(),
+        }
+    }
+
+    /// Adds a value.
+    pub fn add(&mut self, value: i64)
+        ensures { self.new ≡ sum_merged limit self.old (sum_unit limit value) }
+    {
+        add_to(self, value, value.unsigned_abs());
+    }
+
+    /// The same sum.
+    pub fn copy(&self) -> SumCell
+        ensures { result ≡ self.now }
+    {
+        SumCell {
+            sum: self.sum,
+            magnitudes: self.magnitudes,
+        }
+    }
+
+    /// Adds another sum.
+    pub fn merge(&mut self, from: &SumCell)
+        ensures { self.new ≡ sum_merged limit self.old from.now }
+    {
+        add_to(self, from.sum, from.magnitudes);
+    }
+
+    /// Whether the magnitudes passed the limit.
+    pub fn is_over(&self) -> bool
+        ensures { result ≡ is_none self.now }
+    {
+        self.magnitudes > LIMIT
+    }
+
+    /// The sum, or 0 where it is over.
+    pub fn number(&self) -> i128
+        ensures { result ≡ sum_number self.now }
+    {
+        if self.is_over() { 0 } else { self.sum as i128 }
+    }
+}
+
+/// Adds a sum whose magnitudes add up to `magnitudes`. Past the limit the sum stays behind, and means nothing.
+fn add_to(cell: &mut SumCell, sum: i64, magnitudes: u64)
+    requires { magnitudes ≤ limit → nat_abs sum ≤ magnitudes }
+    ensures { cell.new ≡ sum_merged limit cell.old (within (sum_fits limit) (sum, magnitudes)) }
+{
+    let total = cell.magnitudes.saturating_add(magnitudes);
+    if total <= LIMIT {
+        cell.sum += sum;
+    }
+    cell.magnitudes = total;
+}
+
 /// Adds the values of a key. Over where their magnitudes add up past 9223372036854775807.
 pub struct Sum;
 
@@ -51,48 +114,26 @@ impl Combiner for Sum {
     ghost stays_over = { sum_stays_over limit };
 
     fn unit(_alloc: Global, value: i64) -> Result<SumCell, Memory> {
-        Ok(SumCell {
-            sum: value,
-            magnitudes: value.unsigned_abs(),
-        })
+        Ok(SumCell::of(value))
     }
 
     fn add(cell: &mut SumCell, value: i64) -> Result<(), Memory> {
-        add_to(cell, value, value.unsigned_abs());
+        cell.add(value);
         Ok(())
     }
 
     fn copy(_alloc: Global, cell: &SumCell) -> Result<SumCell, Memory> {
-        Ok(SumCell {
-            sum: cell.sum,
-            magnitudes: cell.magnitudes,
-        })
+        Ok(cell.copy())
     }
 
     fn merge(into: &mut SumCell, from: &SumCell) -> Result<(), Memory> {
-        add_to(into, from.sum, from.magnitudes);
+        into.merge(from);
         Ok(())
     }
 
     fn is_over(cell: &SumCell) -> bool {
-        cell.magnitudes > LIMIT
+        cell.is_over()
     }
-}
-
-ghost use Rattle.std.specs.Prelude.{◌≤◌, nat_abs, Some};
-ghost use Rattle.mr_combine.specs.Sums.{sum_fits};
-ghost use Rattle.mr_combine.specs.Bounded.{within};
-
-/// Adds a sum whose magnitudes add up to `magnitudes`. Past the limit the sum stays behind, and means nothing.
-fn add_to(cell: &mut SumCell, sum: i64, magnitudes: u64)
-    requires { magnitudes ≤ limit → nat_abs sum ≤ magnitudes }
-    ensures { cell.new ≡ sum_merged limit cell.old (within (sum_fits limit) (sum, magnitudes)) }
-{
-    let total = cell.magnitudes.saturating_add(magnitudes);
-    if total <= LIMIT {
-        cell.sum += sum;
-    }
-    cell.magnitudes = total;
 }
 
 impl FixedCombiner for Sum {
@@ -107,6 +148,6 @@ impl Single for Sum {
     ghost is_fold = { sum_is_fold limit };
 
     fn number(cell: &SumCell) -> i128 {
-        cell.sum as i128
+        cell.number()
     }
 }

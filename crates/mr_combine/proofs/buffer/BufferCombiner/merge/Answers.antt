@@ -1,4 +1,4 @@
-use Rattle.std.proofs.Common.{◌++◌, sym, ◌∙◌}
+use Rattle.std.proofs.Common.{sym, ◌∙◌}
 use Rattle.mr_defs.specs.Folded.{in_order}
 use Rattle.mr_combine.specs.Ordered.{left_in_order, right_in_order}
 use Rattle.mr_combine.proofs.buffer.BufferCombiner.merge.Goals as goal

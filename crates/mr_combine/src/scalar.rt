@@ -1,26 +1,26 @@
 ghost use Rattle.std.specs.Prelude.{◌≡◌, ℤ, pos};
 ghost use Rattle.std.specs.Int.{cast_signed, cast_unsigned, w64};
 
-/// What a cell of one word keeps of a number, and the number that it answers.
-pub trait Word: Copy + Drop {
-    ghost word_of: { ℤ → Self };
+/// What a cell of at most one word keeps of a number, and the number that it answers.
+pub trait Scalar: Copy + Drop {
+    ghost scalar_of: { ℤ → Self };
 
     ghost number_of: { Self → ℤ };
 
-    /// The word of a number.
+    /// What is kept of a number.
     fn of(value: i64) -> Self
-        ensures { result ≡ word_of value };
+        ensures { result ≡ scalar_of value };
 
-    /// The number of a word.
+    /// The number that it answers.
     fn number(self) -> i64
         ensures { result ≡ number_of self };
 }
 
 /// The number itself.
-impl Word for i64 {
-    ghost word_of = { λ v. v };
+impl Scalar for i64 {
+    ghost scalar_of = { λ v. v };
 
-    ghost number_of = { λ w. w };
+    ghost number_of = { λ s. s };
 
     fn of(value: i64) -> i64 {
         value
@@ -32,8 +32,8 @@ impl Word for i64 {
 }
 
 /// The bits in two's complement.
-impl Word for u64 {
-    ghost word_of = { cast_unsigned w64 };
+impl Scalar for u64 {
+    ghost scalar_of = { cast_unsigned w64 };
 
     ghost number_of = { cast_signed w64 };
 
@@ -47,8 +47,8 @@ impl Word for u64 {
 }
 
 /// That there is a number. It answers 1.
-impl Word for () {
-    ghost word_of = { λ _. tt };
+impl Scalar for () {
+    ghost scalar_of = { λ _. tt };
 
     ghost number_of = { λ _. pos 1 };
 
