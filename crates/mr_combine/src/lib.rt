@@ -19,6 +19,8 @@ mod reducers;
 mod scalar;
 mod single;
 mod sum;
+#[cfg(test)]
+mod tests;
 
 pub use both::Both;
 pub use buffer::{Buffer, BufferCell};

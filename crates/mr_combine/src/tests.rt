@@ -1,0 +1,125 @@
+ghost use Rattle.std.specs.Prelude.{◌≢◌, negsuc};
+
+use crate::{
+    And, Both, Buffer, Combiner, Count, Distinct, List, Max, Median, Min, One, Or, Plain, Point,
+    Reducer, Sum, VecSum, Xor,
+};
+use mr_base::{Answer, Memory};
+use std::alloc::Global;
+use std::test::Fail;
+
+fn reads(answer: &Answer, want: &[i128]) -> bool {
+    answer.len() == want.len() && (0..want.len()).all(|i| answer.number(i) == want[i])
+}
+
+// Whether 5 and 3 fold to these numbers by `add`, and by `merge` with a copy of a cell.
+fn folds<C: Combiner<Value = i64>, R: Reducer<C>>(
+    alloc: Global,
+    want: &[i128],
+) -> Result<bool, Memory> {
+    let mut added = C::unit(alloc, 5)?;
+    C::add(&mut added, 3)?;
+    let mut merged = C::unit(alloc, 5)?;
+    let other = C::unit(alloc, 3)?;
+    C::merge(&mut merged, &C::copy(alloc, &other)?)?;
+    let none_over = !C::is_over(&added) && !C::is_over(&merged);
+    Ok(
+        none_over
+            && reads(&R::reduce(alloc, added)?, want)
+            && reads(&R::reduce(alloc, merged)?, want),
+    )
+}
+
+#[test]
+fn folds_of_one_word(rt: HostRuntime) -> Result<(), Fail> {
+    let alloc = rt.alloc();
+    assert!(rt; folds::<Sum, Plain>(alloc, &[8])?);
+    assert!(rt; folds::<Min, Plain>(alloc, &[3])?);
+    assert!(rt; folds::<Max, Plain>(alloc, &[5])?);
+    assert!(rt; folds::<One, Plain>(alloc, &[1])?);
+    assert!(rt; folds::<Count, Plain>(alloc, &[2])?);
+    assert!(rt; folds::<And, Plain>(alloc, &[1])?);
+    assert!(rt; folds::<Or, Plain>(alloc, &[7])?);
+    assert!(rt; folds::<Xor, Plain>(alloc, &[6])?);
+    Ok(())
+}
+
+#[test]
+fn folds_of_more(rt: HostRuntime) -> Result<(), Fail> {
+    let alloc = rt.alloc();
+    assert!(rt; folds::<Both<Min, Max>, Plain>(alloc, &[3, 5])?);
+    assert!(rt; folds::<Both<Sum, Count>, Plain>(alloc, &[8, 2])?);
+    assert!(rt; folds::<Buffer, List>(alloc, &[3, 5])?);
+    assert!(rt; folds::<Buffer, Distinct>(alloc, &[3, 5])?);
+    assert!(rt; folds::<Buffer, Median>(alloc, &[3])?);
+    Ok(())
+}
+
+// Whether three values are over by `add`, and by `merge` of each cut into two cells.
+fn over_each_way(alloc: Global, a: i64, b: i64, c: i64) -> Result<bool, Memory>
+    requires first { a ≢ negsuc 9223372036854775807 }
+    requires second { b ≢ negsuc 9223372036854775807 }
+    requires third { c ≢ negsuc 9223372036854775807 }
+{
+    let mut front = Sum::unit(alloc, a)?;
+    Sum::add(&mut front, b)?;
+    let mut added = Sum::copy(alloc, &front)?;
+    Sum::add(&mut added, c)?;
+    Sum::merge(&mut front, &Sum::unit(alloc, c)?)?;
+    let mut back = Sum::unit(alloc, b)?;
+    Sum::add(&mut back, c)?;
+    let mut first = Sum::unit(alloc, a)?;
+    Sum::merge(&mut first, &back)?;
+    Ok(Sum::is_over(&added) && Sum::is_over(&front) && Sum::is_over(&first))
+}
+
+#[test]
+fn sums_over_in_any_order(rt: HostRuntime) -> Result<(), Fail> {
+    let alloc = rt.alloc();
+    assert!(rt; over_each_way(alloc, 9223372036854775807, 1, -5)?);
+    assert!(rt; over_each_way(alloc, 9223372036854775807, -5, 1)?);
+    assert!(rt; over_each_way(alloc, 1, 9223372036854775807, -5)?);
+    assert!(rt; over_each_way(alloc, 1, -5, 9223372036854775807)?);
+    assert!(rt; over_each_way(alloc, -5, 9223372036854775807, 1)?);
+    assert!(rt; over_each_way(alloc, -5, 1, 9223372036854775807)?);
+    Ok(())
+}
+
+#[test]
+fn points_of_unequal_lengths(rt: HostRuntime) -> Result<(), Fail> {
+    let alloc = rt.alloc();
+    let mut cell = VecSum::unit(alloc, Point::of(alloc, &[1, 2])?)?;
+    VecSum::add(&mut cell, Point::of(alloc, &[3])?)?;
+    let copied = VecSum::copy(alloc, &cell)?;
+    assert!(rt;
+        reads(
+            &<Plain as Reducer<VecSum>>::reduce(alloc, copied)?,
+            &[2, 4, 2]
+        )
+    );
+    let mut other = VecSum::unit(alloc, Point::of(alloc, &[])?)?;
+    VecSum::merge(&mut other, &cell)?;
+    assert!(rt; !VecSum::is_over(&other));
+    assert!(rt;
+        reads(
+            &<Plain as Reducer<VecSum>>::reduce(alloc, other)?,
+            &[3, 4, 2]
+        )
+    );
+    Ok(())
+}
+
+#[test]
+fn values_in_order(rt: HostRuntime) -> Result<(), Fail> {
+    let alloc = rt.alloc();
+    let mut cell = Buffer::unit(alloc, 9)?;
+    for value in [1, 5, 3, -5, 5] {
+        Buffer::add(&mut cell, value)?;
+    }
+    let list = Buffer::copy(alloc, &cell)?;
+    let distinct = Buffer::copy(alloc, &cell)?;
+    assert!(rt; reads(&List::reduce(alloc, list)?, &[-5, 1, 3, 5, 5, 9]));
+    assert!(rt; reads(&Distinct::reduce(alloc, distinct)?, &[-5, 1, 3, 5, 9]));
+    assert!(rt; reads(&Median::reduce(alloc, cell)?, &[3]));
+    Ok(())
+}
