@@ -1,0 +1,12 @@
+/// A place in a part of a local.
+#[derive(Clone, Copy, Debug)]
+pub struct Cursor {
+    /// The part that is read.
+    pub part: u32,
+    /// The number of parts.
+    pub parts: u32,
+    /// Where the container goes on; only its own calls read it.
+    pub place: u64,
+    /// A place within that place, for containers that need one.
+    pub within: u64,
+}

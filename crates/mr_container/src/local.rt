@@ -1,0 +1,73 @@
+ghost use Rattle.std.specs.Prelude.{◌≡◌, ℕ, ◌++◌, ◌∷◌, [], List, Bool, OnOk, OnErr, IsOk, IsTrue};
+ghost use Rattle.std.specs.List.Sorted.{IsPermutation};
+ghost use Rattle.mr_defs.specs.Emission.{Emission, Pair, TooLarge, Malformed};
+ghost use Rattle.mr_defs.specs.Stands.{Noted};
+ghost use Rattle.mr_base.specs.Noting.{noted_of};
+
+use mr_base::{Emitted, Faults, Key, Memory};
+
+/// The container of one worker: the pairs that its tasks emit are combined here, key by key.
+///
+/// Contracts say for which list of emissions a local stands. A key that the container has no place for is outside: it is noted and has
+/// no cell.
+pub trait Local: Drop {
+    type Key: Key;
+
+    type Value: Emitted;
+
+    /// It stands for these emissions.
+    ghost stands: { Self → List (Emission Self.Key Self.Value) → Type 0 };
+
+    ghost noted: { Self → Noted Self.Key };
+
+    ghost cell_count: { Self → ℕ };
+
+    /// Both come from the same place, where the container has one.
+    ghost same_origin: { Self → Self → Type 0 };
+
+    /// Nothing that contracts see has changed.
+    ghost same: { Self → Self → Type 0 };
+
+    /// A pair of this key takes no memory.
+    ghost spares: { Self → Self.Key → Bool };
+
+    /// Combines the value into the cell of its key, or notes the key where it is outside.
+    ///
+    /// After `Memory` nothing has changed. A key outside is no error, and takes no memory.
+    fn emit(&mut self, key: Self::Key, value: Self::Value) -> Result<(), Memory>
+        requires key { Self.Key.allowed key }
+        requires value { Self.Value.allowed value }
+        ensures ok { OnOk result ((es : List (Emission Self.Key Self.Value)) → stands self.old es → stands self.new (es ++ Pair key value ∷ [])) }
+        ensures err { OnErr result (same self.old self.new) }
+        ensures no_memory { IsTrue (spares self.old key) → IsOk result }
+        ensures origin { same_origin self.old self.new };
+
+    /// Notes that the key has a value which is too large. Takes no memory.
+    fn too_large(&mut self, key: Self::Key)
+        requires { Self.Key.allowed key }
+        ensures stands { (es : List (Emission Self.Key Self.Value)) → stands self.old es → stands self.new (es ++ TooLarge key ∷ []) }
+        ensures origin { same_origin self.old self.new };
+
+    /// Notes an item without form, at this offset in bytes of the whole input. Takes no memory.
+    fn malformed(&mut self, offset: u64)
+        ensures stands { (es : List (Emission Self.Key Self.Value)) → stands self.old es → stands self.new (es ++ Malformed offset ∷ []) }
+        ensures origin { same_origin self.old self.new };
+
+    /// The number of keys with a cell.
+    fn cells(&self) -> u64
+        ensures { result ≡ cell_count self.now };
+
+    /// The faults that were noted, each the least of its kind.
+    fn faults(&self) -> &Faults<Self::Key>
+        ensures { noted_of result.now ≡ noted self.now };
+
+    ghost any_order: { (s : Self) (es fs : List (Emission Self.Key Self.Value)) → IsPermutation es fs → stands s es → stands s fs };
+
+    ghost same_keeps: { (s t : Self) → same s t
+        → ((es : List (Emission Self.Key Self.Value)) → stands s es → stands t es)
+        × (noted t ≡ noted s) × (cell_count t ≡ cell_count s) × ((k : Self.Key) → spares t k ≡ spares s k) };
+
+    ghost origin_refl: { (s : Self) → same_origin s s };
+
+    ghost origin_trans: { (s t u : Self) → same_origin s t → same_origin t u → same_origin s u };
+}
