@@ -1,38 +1,21 @@
 -- How many keys inside stand in a pair, where one pair more comes.
-use Rattle.std.proofs.Common.{◌≡◌, ℕ, suc, ◌+◌, Bool, true, false, ◌&&◌, ◌||◌, cond, if◌then◌else◌, T, List, [], ◌∷◌, ◌++◌, length, map, filter, filter_map, fold, Option, Some, None, is_some, refl, sym, ap, subst, ◌∙◌, arith}
+use Rattle.std.proofs.Common.{◌≡◌, ℕ, suc, ◌+◌, Bool, true, false, ◌||◌, cond, if◌then◌else◌, T, List, [], ◌∷◌, ◌++◌, length, filter, filter_map, fold, Option, Some, None, is_some, refl, sym, ap, ◌∙◌, arith}
 use Rattle.std.specs.List.{list_any, cons_option}
 use Rattle.std.specs.BTreeSet.{insert_key}
 use Rattle.std.specs.declared.cmp.Ordering.{Ordering}
 use Rattle.std.specs.declared.cmp.Ordering.TheVariants.{Less, Equal, Greater}
-use Rattle.std.specs.Ordering.{eq_by_cmp, is_eq, is_lt, match_ordering}
+use Rattle.std.specs.Ordering.{eq_by_cmp, is_eq, match_ordering}
 use Rattle.std.specs.Cmp.{IsTotalOrder}
 use Rattle.std.specs.FinMap.{IsAntisymmetric, is_sorted}
 use Rattle.std.specs.FinMap.Entries.{below_all}
 use Rattle.std.proofs.lemmas.List.Elements.{filter_map-append}
 use Rattle.mr_defs.specs.Emission.{Emission, Pair, TooLarge, Malformed}
 use Rattle.mr_defs.specs.Commutative.{joined}
-use Rattle.mr_defs.specs.Keyed.{at, ascending, pair_key, value_at}
+use Rattle.mr_defs.specs.Keyed.{at, ascending, pair_key}
 use Rattle.mr_defs.specs.Rows.{cells_of}
 use Rattle.mr_defs.specs.Stands.{cell_of}
 use Rattle.mr_defs.proofs.Ascending.{ascending-push, ascending_sorted, marked}
-
-pub is_Equal : (r : Ordering) → is_eq r ≡ true → r ≡ Equal
-is_Equal Less h = cc
-is_Equal Equal h = refl
-is_Equal Greater h = cc
-
-both_first : (a b : Bool) → T (a && b) → T a
-both_first true b p = tt
-both_first false b p = p
-
-both_second : (a b : Bool) → T (a && b) → T b
-both_second true b p = p
-both_second false b p = absurd p
-
-is_Less : (r : Ordering) → T (is_lt r) → r ≡ Less
-is_Less Less h = refl
-is_Less Equal h = absurd h
-is_Less Greater h = absurd h
+use Rattle.mr_container.proofs.Orders.{is_Less, both_first, both_second}
 
 or_twice : (a b : Bool) → (a || b) ≡ (a || (a || b))
 or_twice true b = refl

@@ -7,13 +7,14 @@ use Rattle.std.specs.Cmp.{IsTotalOrder, tied_itself, nat_cmp_total}
 use Rattle.std.specs.FinMap.{IsAntisymmetric, nat_cmp-IsAntisymmetric}
 use Rattle.std.proofs.lemmas.List.Elements.{filter_map-append}
 use Rattle.mr_defs.specs.Emission.{Emission, Pair, TooLarge, Malformed}
-use Rattle.mr_defs.specs.Commutative.{IsCommutative, joined, joined_by, joined-none, joined_by-push}
+use Rattle.mr_defs.specs.Commutative.{IsCommutative, joined, joined-none, joined_by-push}
 use Rattle.mr_defs.specs.Keyed.{at, ascending, pair_key, any_key, large_key, malformed_offset, value_at, lesser}
 use Rattle.mr_defs.specs.Rows.{cells_of}
 use Rattle.mr_defs.specs.Stands.{Noted, IsNotedOf, StandsFor, cell_of}
 use Rattle.mr_defs.proofs.Lesser.{lesser_commutative}
 use Rattle.mr_defs.proofs.Readings.{passing, malformed_read, outside_read, large_read}
-use Rattle.mr_container.proofs.Counting.{is_Equal, is_some-cell_of, cells_of-push, cells_of-push_outside}
+use Rattle.mr_container.proofs.Orders.{is_Equal}
+use Rattle.mr_container.proofs.Counting.{is_some-cell_of, cells_of-push, cells_of-push_outside}
 
 true_false : true ≡ false → ⊥
 true_false e = cc

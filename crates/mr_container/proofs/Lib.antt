@@ -1,3 +1,7 @@
 pub mod Tasks
+pub mod Orders
 pub mod Counting
 pub mod Emitted
+pub mod Places
+pub mod Ascending
+pub mod Parts

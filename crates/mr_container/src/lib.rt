@@ -12,8 +12,10 @@ mod cursor;
 mod local;
 mod mapper;
 mod parted;
+mod sorted;
 
 pub use cursor::Cursor;
 pub use local::Local;
 pub use mapper::{Mapper, map_all};
 pub use parted::Parted;
+pub use sorted::SortedLocal;
