@@ -14,10 +14,6 @@ use Rattle.mr_defs.specs.Stands.{Noted, StandsFor}
 use Rattle.mr_container.proofs.Emitted.{after_pair}
 use Rattle.mr_container.proofs.Places.{put_here, find_here, put_gap, find_gap}
 
-pub on_ok : {A E : Type 0} {P Q : Type 0} → (r : Result A E) → OnOk r P → (P → Q) → OnOk r Q
-on_ok (Ok a) p f = f p
-on_ok (Err e) p f = tt
-
 module _ {K C : Type 0} {R : K → K → Ordering} (o : IsTotalOrder R) (entries : List (K × C)) (sorted : T (is_sorted R entries)) where
   pub sorted_set : (k : K) (v : C) (i : ℕ) (e : K × C) → i < length entries → e ≡ get_or entries i e → R e.0 k ≡ Equal → T (is_sorted R (set entries i (e.0, v)))
   sorted_set k v i e p is t = subst (λ l. T (is_sorted R l)) (put_here o k v entries i e sorted p is t) (is_sorted-put R o k v entries sorted)

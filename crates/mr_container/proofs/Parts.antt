@@ -1,14 +1,15 @@
 -- The entries of one part.
-use Rattle.std.proofs.Common.{◌≡◌, ℕ, zero, suc, ◌+◌, ◌%◌, ◌<◌, Bool, cond, nat_eq, List, [], ◌∷◌, length, get_or, drop, map, sym, ap, ◌∙◌, T, drop-cons, add-one}
+use Rattle.std.proofs.Common.{◌≡◌, ℕ, zero, suc, ◌+◌, ◌<◌, ◌==◌, Bool, cond, List, [], ◌∷◌, length, get_or, drop, map, sym, ap, ◌∙◌, T, drop-cons, add-one}
 use Rattle.std.specs.List.{filter, AllByRecursion}
 use Rattle.std.specs.declared.cmp.Ordering.{Ordering}
 use Rattle.std.specs.declared.cmp.Ordering.TheVariants.{Less}
 use Rattle.std.specs.FinMap.{IsAntisymmetric, find, is_sorted}
-use Rattle.std.specs.FinMap.Entries.{below_all, is_sorted-where_key, find-where_key}
+use Rattle.std.specs.FinMap.Entries.{below_all, is_sorted-where_key}
 use Rattle.std.specs.List.Sorted.{IsStrictlySortedBy}
 use Rattle.std.proofs.lemmas.Map.Keys.{IsDistinct-from_sorted}
 use Rattle.mr_container.specs.Part.{IsPart}
 use Rattle.mr_container.proofs.Orders.{is_Less, both_first, both_second}
+use Rattle.mr_container.proofs.Entries.{part_of_distinct}
 
 module _ {K C : Type 0} (R : K → K → Ordering) where
   all_Less : (x : K) (es : List (K × C)) → T (below_all R x es) → AllByRecursion (λ y. R x y ≡ Less) (map (λ e. e.0) es)
@@ -33,8 +34,5 @@ module _ {K C : Type 0} (R : K → K → Ordering) where
   pub filter_step : (p : K × C → Bool) (es : List (K × C)) (i : ℕ) (e : K × C) → i < length es → e ≡ get_or es i e → filter p (drop i es) ≡ cond (p e) (e ∷ filter p (drop (i + 1) es)) (filter p (drop (i + 1) es))
   filter_step p es i e h is = rw add-one (ap (filter p) (drop-cons es i e h ∙ ap (λ y. y ∷ drop (suc i) es) (sym is)))
 
-  pub part_of_sorted : (one : IsAntisymmetric R) (hash : K → ℕ) (parts part : ℕ) (es : List (K × C)) → T (is_sorted R es) → IsPart R (λ k. find R k es) (λ k. hash k % parts) part (filter (λ e. nat_eq (hash e.0 % parts) part) es)
-  part_of_sorted one hash parts part es h = record {
-    distinct = IsDistinct-from_sorted R _ (strictly _ (is_sorted-where_key R (λ k. nat_eq (hash k % parts) part) es h));
-    found = λ k. find-where_key R (λ q. nat_eq (hash q % parts) part) k (λ x e. ap (λ q. nat_eq (hash q % parts) part) (sym (one k x e))) es;
-  }
+  pub part_of_sorted : IsAntisymmetric R → (part_of : K → ℕ) (part : ℕ) (es : List (K × C)) → T (is_sorted R es) → IsPart R (λ k. find R k es) part_of part (filter (λ e. part_of e.0 == part) es)
+  part_of_sorted one part_of part es h = part_of_distinct R one part_of part es (IsDistinct-from_sorted R _ (strictly es h))
