@@ -1,0 +1,4 @@
+pub mod Indexing
+pub mod Finding
+pub mod Spread
+pub mod Reading

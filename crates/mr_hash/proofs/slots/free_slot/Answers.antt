@@ -1,0 +1,12 @@
+use Rattle.std.proofs.Common.{arith, ◌<◌, subst, sym, ap, ◌∙◌, length, get_or}
+use Rattle.mr_hash.specs.Slots.{IsFree}
+use Rattle.mr_hash.proofs.Indexing.{free_here, room_found}
+use Rattle.mr_hash.proofs.slots.free_slot.Goals as goal
+
+pub returns-then-index-at-eq0 : goal.returns-then-index-at-eq0
+returns-then-index-at-eq0 c =
+    let is = c.slot-at.ensures.slot in
+    subst (IsFree c.args.index.now c.args.hash) (sym is) (free_here c.args.index.now c.args.hash c.loop-distance.distance c.loop-distance-test.true (subst (λ s. s < length c.args.index.now) is c.slot-at.ensures.within) c.loop-distance.invariant (ap (λ s. get_or c.args.index.now s 0) (sym is) ∙ c.if-index-at-eq0.true))
+
+pub returns : goal.returns
+returns c = absurd (room_found c.args.index.now c.args.hash c.requires (λ distance l. c.loop-distance.invariant distance (omega (arith, l, c.loop-distance-test.false))))
