@@ -1,0 +1,4 @@
+mod Forward
+mod Between
+mod Whole
+mod Strides
