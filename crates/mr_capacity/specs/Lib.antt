@@ -1,0 +1,4 @@
+pub mod Names
+pub mod Same
+pub mod Tables
+pub mod Folds

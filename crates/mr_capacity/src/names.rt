@@ -1,0 +1,71 @@
+ghost use Rattle.std.specs.Prelude.{◌≡◌};
+ghost use Rattle.mr_capacity.specs.Names.{found};
+
+use crate::kinds::{CombinerKind, ContainerKind, JobKind, KeyKind, QueueKind, ReducerKind};
+
+/// The jobs, by the names that a job file has for them.
+pub const JOB_NAMES: [(&str, JobKind); 9] = [
+    ("word_count", JobKind::WordCount),
+    ("fold_lines", JobKind::FoldLines),
+    ("inverted_index", JobKind::InvertedIndex),
+    ("string_match", JobKind::StringMatch),
+    ("histogram", JobKind::Histogram),
+    ("linear_regression", JobKind::LinearRegression),
+    ("matrix_product", JobKind::MatrixProduct),
+    ("kmeans", JobKind::KMeans),
+    ("pca", JobKind::Pca),
+];
+
+/// The containers by name.
+pub const CONTAINER_NAMES: [(&str, ContainerKind); 3] = [
+    ("hash", ContainerKind::Hash),
+    ("array", ContainerKind::Array),
+    ("common", ContainerKind::Common),
+];
+
+/// The key kinds by name.
+pub const KEY_NAMES: [(&str, KeyKind); 2] = [
+    ("bytes", KeyKind::Bytes),
+    ("numbers", KeyKind::Numbers),
+];
+
+/// The combiners by name.
+pub const COMBINER_NAMES: [(&str, CombinerKind); 13] = [
+    ("sum", CombinerKind::Sum),
+    ("min", CombinerKind::Min),
+    ("max", CombinerKind::Max),
+    ("one", CombinerKind::One),
+    ("count", CombinerKind::Count),
+    ("and", CombinerKind::And),
+    ("or", CombinerKind::Or),
+    ("xor", CombinerKind::Xor),
+    ("minmax", CombinerKind::MinMax),
+    ("sumcount", CombinerKind::SumCount),
+    ("vecsum", CombinerKind::VecSum),
+    ("buffer", CombinerKind::Buffer),
+    ("once", CombinerKind::Once),
+];
+
+/// The reducers by name.
+pub const REDUCER_NAMES: [(&str, ReducerKind); 3] = [
+    ("list", ReducerKind::List),
+    ("median", ReducerKind::Median),
+    ("distinct", ReducerKind::Distinct),
+];
+
+/// The queues by name.
+pub const QUEUE_NAMES: [(&str, QueueKind); 3] = [
+    ("blocks", QueueKind::Blocks),
+    ("ranges", QueueKind::Ranges),
+    ("deques", QueueKind::Deques),
+];
+
+/// The kind that a table of names has for this text.
+pub fn named<K: Copy>(names: &[(&str, K)], text: &str) -> Option<K>
+    ensures { result ≡ found names.now text.now }
+{
+    names
+        .iter()
+        .find(|entry| entry.0 == text)
+        .map(|entry| entry.1)
+}
