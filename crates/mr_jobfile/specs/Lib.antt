@@ -1,0 +1,7 @@
+pub mod Ranges
+pub mod Keys
+pub mod Forms
+pub mod Values
+pub mod JobOf
+pub mod Seen
+pub mod FaultText

@@ -1,0 +1,43 @@
+-- The ranges of a job's numbers and patterns.
+use Rattle.std.specs.Prelude.{ℕ, Bool, true, false, not, ◌&&◌, ◌==◌, nat_le, List, length}
+use Rattle.std.specs.List.{list_any, list_all}
+use Rattle.mr_capacity.specs.declared.kinds.JobKind.{JobKind}
+use Rattle.mr_capacity.specs.declared.kinds.JobKind.TheVariants as job
+
+abbrev pub is_within : ℕ → ℕ → ℕ → Bool
+is_within low high n = nat_le low n && nat_le n high
+
+-- from 1 to the greatest where the job has it, and else 0
+abbrev pub is_count_of : Bool → ℕ → ℕ → Bool
+is_count_of true high n = is_within 1 high n
+is_count_of false high n = n == 0
+
+-- 1 to 64 bytes, and none of them a byte 10
+abbrev pub is_pattern : List ℕ → Bool
+is_pattern bytes = is_within 1 64 (length bytes) && not (list_any (λ b. b == 10) bytes)
+
+-- 1 to 16 of them
+abbrev pub are_patterns : List (List ℕ) → Bool
+are_patterns patterns = is_within 1 16 (length patterns) && list_all is_pattern patterns
+
+-- such patterns where the job has them, and else none
+abbrev pub are_patterns_of : Bool → List (List ℕ) → Bool
+are_patterns_of true patterns = are_patterns patterns
+are_patterns_of false patterns = length patterns == 0
+
+-- jobs that have clusters and rounds
+abbrev pub has_means : JobKind → Bool
+has_means job.KMeans = true
+has_means _ = false
+
+abbrev pub has_patterns : JobKind → Bool
+has_patterns job.StringMatch = true
+has_patterns _ = false
+
+-- jobs over the bytes of a text, whose chunk counts bytes
+abbrev pub is_text_job : JobKind → Bool
+is_text_job job.WordCount = true
+is_text_job job.FoldLines = true
+is_text_job job.InvertedIndex = true
+is_text_job job.StringMatch = true
+is_text_job _ = false

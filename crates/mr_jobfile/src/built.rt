@@ -1,0 +1,26 @@
+use mr_capacity::{CombinerKind, ContainerKind, JobKind, QueueKind};
+
+/// The jobs that are built so far. Every other name is a bad value of its key, here and in the tables below.
+pub const BUILT_JOBS: [JobKind; 1] = [JobKind::WordCount];
+
+/// The containers that are built so far.
+pub const BUILT_CONTAINERS: [ContainerKind; 1] = [ContainerKind::Hash];
+
+/// The combiners that are built so far.
+pub const BUILT_COMBINERS: [CombinerKind; 12] = [
+    CombinerKind::Sum,
+    CombinerKind::Min,
+    CombinerKind::Max,
+    CombinerKind::One,
+    CombinerKind::Count,
+    CombinerKind::And,
+    CombinerKind::Or,
+    CombinerKind::Xor,
+    CombinerKind::MinMax,
+    CombinerKind::SumCount,
+    CombinerKind::VecSum,
+    CombinerKind::Buffer,
+];
+
+/// The queues that are built so far.
+pub const BUILT_QUEUES: [QueueKind; 1] = [QueueKind::Blocks];
