@@ -14,10 +14,7 @@ use Rattle.mr_capacity.specs.declared.names.TheConstants.{JOB_NAMES, CONTAINER_N
 abbrev pub named : {K : Type 0} → List (List ℕ × K) → List ℕ → Option K
 named names text = option_map (λ entry. entry.1) (find (λ entry. bytes_eq entry.0 text) names)
 
--- the same in a table as the code holds it, whose texts are references
-abbrev pub found : {K : Type 0} → List (Bor (List ℕ) × K) → List ℕ → Option K
-found names text = option_map (λ entry. entry.1) (find (λ entry. bytes_eq entry.0.now text) names)
-
+-- a table of names as the code holds it
 abbrev pub entries : {K : Type 0} → List (Bor (List ℕ) × K) → List (List ℕ × K)
 entries names = map (λ entry. (entry.0.now, entry.1)) names
 

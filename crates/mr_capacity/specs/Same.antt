@@ -7,12 +7,14 @@ use Rattle.mr_capacity.specs.declared.kinds.KeyKind.{KeyKind}
 use Rattle.mr_capacity.specs.declared.kinds.CombinerKind.{CombinerKind}
 use Rattle.mr_capacity.specs.declared.kinds.ReducerKind.{ReducerKind}
 use Rattle.mr_capacity.specs.declared.kinds.QueueKind.{QueueKind}
+use Rattle.mr_capacity.specs.declared.tables.Further.{Further}
 use Rattle.mr_capacity.specs.contracts.kinds.JobKind as job
 use Rattle.mr_capacity.specs.contracts.kinds.ContainerKind as container
 use Rattle.mr_capacity.specs.contracts.kinds.KeyKind as keys
 use Rattle.mr_capacity.specs.contracts.kinds.CombinerKind as combiner
 use Rattle.mr_capacity.specs.contracts.kinds.ReducerKind as reducer
 use Rattle.mr_capacity.specs.contracts.kinds.QueueKind as queue
+use Rattle.mr_capacity.specs.contracts.tables.Further as further
 
 abbrev pub same_job : JobKind → JobKind → Bool
 same_job a b = sameb job.the_type a b
@@ -31,3 +33,6 @@ same_reducer a b = sameb reducer.the_type a b
 
 abbrev pub same_queue : QueueKind → QueueKind → Bool
 same_queue a b = sameb queue.the_type a b
+
+abbrev pub same_further : Further → Further → Bool
+same_further a b = sameb further.the_type a b

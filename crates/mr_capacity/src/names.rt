@@ -1,5 +1,5 @@
 ghost use Rattle.std.specs.Prelude.{◌≡◌};
-ghost use Rattle.mr_capacity.specs.Names.{found};
+ghost use Rattle.mr_capacity.specs.Names.{entries, named};
 
 use crate::kinds::{CombinerKind, ContainerKind, JobKind, KeyKind, QueueKind, ReducerKind};
 
@@ -62,10 +62,12 @@ pub const QUEUE_NAMES: [(&str, QueueKind); 3] = [
 
 /// The kind that a table of names has for this text.
 pub fn named<K: Copy>(names: &[(&str, K)], text: &str) -> Option<K>
-    ensures { result ≡ found names.now text.now }
+    ensures { result ≡ named (entries names.now) text.now }
 {
-    names
-        .iter()
-        .find(|entry| entry.0 == text)
-        .map(|entry| entry.1)
+    for (name, kind) in names {
+        if *name == text {
+            return Some(*kind);
+        }
+    }
+    None
 }

@@ -1,1 +1,7 @@
 mod Files
+pub mod Allowed
+pub mod Found
+pub mod JobOf
+pub mod Lookups
+pub mod Texts
+pub mod Unknown

@@ -5,10 +5,13 @@ use Rattle.mr_jobfile.specs.declared.fault.JobFault.{JobFault}
 use Rattle.mr_jobfile.specs.declared.fault.JobFault.TheVariants as fault
 use Rattle.mr_jobfile.specs.Keys.{key_text}
 
+abbrev pub fault_words : JobFault → List ℕ
+fault_words fault.TooLong = codes "too long"
+fault_words fault.NotToml = codes "not toml"
+fault_words (fault.Unknown name) = codes "unknown " ++ shown_text name
+fault_words (fault.Missing k) = codes "missing " ++ key_text k
+fault_words (fault.BadValue k) = codes "bad " ++ key_text k
+fault_words fault.Pairing = codes "pairing"
+
 abbrev pub job_line : JobFault → List ℕ
-job_line fault.TooLong = fault_line (codes "job too long")
-job_line fault.NotToml = fault_line (codes "job not toml")
-job_line (fault.Unknown name) = fault_line (codes "job unknown " ++ shown_text name)
-job_line (fault.Missing k) = fault_line (codes "job missing " ++ key_text k)
-job_line (fault.BadValue k) = fault_line (codes "job bad " ++ key_text k)
-job_line fault.Pairing = fault_line (codes "job pairing")
+job_line fault = fault_line (codes "job " ++ fault_words fault)

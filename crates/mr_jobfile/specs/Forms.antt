@@ -54,7 +54,7 @@ is_built_queue k = list_any (λ b. same_queue b k) BUILT_QUEUES
 
 -- the value is one that the key may have
 abbrev pub fits : JobKey → Data → Bool
-fits key.Version d = is_there (λ n. n == 1) (number_in d)
+fits key.Version d = is_there (is_within 1 1) (number_in d)
 fits key.Job d = is_there is_built_job (kind_in job_names d)
 fits key.Container d = is_there is_built_container (kind_in container_names d)
 fits key.Capacity d = is_there (λ n. is_capacity (pos n)) (number_in d)

@@ -1,16 +1,15 @@
 -- The job that a file means, or its fault.
-use Rattle.std.specs.Prelude.{ℕ, nat_lt, List, length, find, if◌then◌else◌, Option, None, Result, Ok, Err}
+use Rattle.std.specs.Prelude.{ℕ, nat_lt, List, length, if◌then◌else◌, Option, None, Result, Ok, Err}
 use Rattle.std.specs.Option.{option_map_or}
 use Rattle.std.specs.Str.{is_utf8}
 use Rattle.toml.specs.Data.{Members}
 use Rattle.toml.specs.Parse.{parse_document}
-use Rattle.mr_capacity.specs.Tables.{rows}
 use Rattle.mr_jobfile.specs.declared.fault.JobFault.{JobFault}
 use Rattle.mr_jobfile.specs.declared.fault.JobFault.TheVariants as fault
-use Rattle.mr_jobfile.specs.declared.TheConstants.{JOB_LIMIT}
+use Rattle.mr_jobfile.specs.declared.read.TheConstants.{JOB_LIMIT}
 use Rattle.mr_jobfile.specs.Keys.{first_unknown, first_missing}
 use Rattle.mr_jobfile.specs.Forms.{first_bad}
-use Rattle.mr_jobfile.specs.Values.{SeenJob, values_of, fits_row, job_in_row}
+use Rattle.mr_jobfile.specs.Values.{SeenJob, values_of, described}
 
 -- the document that toml reads in the bytes
 unfoldable pub document_of : List ℕ → Option Members
@@ -22,8 +21,7 @@ judged ms =
     option_map_or (λ name. Err (fault.Unknown name)) (first_unknown ms)
     (option_map_or (λ k. Err (fault.Missing k)) (first_missing ms)
     (option_map_or (λ k. Err (fault.BadValue k)) (first_bad ms)
-    (option_map_or (λ row. Ok (job_in_row (values_of ms) row)) (find (fits_row (values_of ms)) rows)
-    (Err fault.Pairing))))
+    (option_map_or Ok (described (values_of ms)) (Err fault.Pairing))))
 
 unfoldable pub job_of : List ℕ → Result SeenJob JobFault
 job_of bytes =

@@ -3,5 +3,6 @@ pub mod Keys
 pub mod Forms
 pub mod Values
 pub mod JobOf
+pub mod Allowed
 pub mod Seen
 pub mod FaultText

@@ -1,23 +1,22 @@
 -- What a table says of each key, and the job that it means.
-use Rattle.std.specs.Prelude.{ℕ, Bool, is_some, is_none, ◌&&◌, List, [], if◌then◌else◌, Option, option_and_then, unwrap_or}
+use Rattle.std.specs.Prelude.{ℕ, Bool, true, false, is_some, is_none, ◌&&◌, List, [], if◌then◌else◌, Option, Some, None, option_map, option_and_then, unwrap_or, find}
+use Rattle.std.specs.Option.{option_map_or}
 use Rattle.toml.specs.Data.{Data, Members, get_member}
 use Rattle.mr_capacity.specs.declared.kinds.JobKind.{JobKind}
 use Rattle.mr_capacity.specs.declared.kinds.ContainerKind.{ContainerKind}
-use Rattle.mr_capacity.specs.declared.kinds.ContainerKind.TheVariants as container
 use Rattle.mr_capacity.specs.declared.kinds.KeyKind.{KeyKind}
 use Rattle.mr_capacity.specs.declared.kinds.CombinerKind.{CombinerKind}
-use Rattle.mr_capacity.specs.declared.kinds.CombinerKind.TheVariants as combiner
 use Rattle.mr_capacity.specs.declared.kinds.ReducerKind.{ReducerKind}
 use Rattle.mr_capacity.specs.declared.kinds.QueueKind.{QueueKind}
 use Rattle.mr_capacity.specs.declared.tables.Further.{Further}
 use Rattle.mr_capacity.specs.declared.tables.Further.TheVariants as further
 use Rattle.mr_capacity.specs.Names.{job_names, container_names, key_names, combiner_names, reducer_names, queue_names}
-use Rattle.mr_capacity.specs.Same.{same_keys}
-use Rattle.mr_capacity.specs.Tables.{Row, is_row}
+use Rattle.mr_capacity.specs.Same.{same_keys, same_further}
+use Rattle.mr_capacity.specs.Tables.{Row, rows, is_row}
 use Rattle.mr_jobfile.specs.declared.key.JobKey.{JobKey}
 use Rattle.mr_jobfile.specs.declared.key.JobKey.TheVariants as key
 use Rattle.mr_jobfile.specs.declared.values.Values.{Values}
-use Rattle.mr_jobfile.specs.declared.values.TheConstants.{DEFAULT_QUEUE, DEFAULT_PARTITIONS, DEFAULT_TEXT_CHUNK, DEFAULT_CHUNK}
+use Rattle.mr_jobfile.specs.declared.defaults.TheConstants.{DEFAULT_QUEUE, DEFAULT_PARTITIONS, DEFAULT_TEXT_CHUNK, DEFAULT_CHUNK}
 use Rattle.mr_jobfile.specs.Keys.{key_text}
 use Rattle.mr_jobfile.specs.Ranges.{is_text_job}
 use Rattle.mr_jobfile.specs.Forms.{is_there, number_in, kind_in, texts_in}
@@ -42,19 +41,27 @@ values_of ms = record {
   patterns = said texts_in key.Patterns ms;
 }
 
--- exactly the further keys are there that the row names, and keys is the row's key kind
-abbrev pub has_further : Further → KeyKind → Values → Bool
-has_further further.Nothing kind v = is_none v.keys && is_none v.patterns && is_none v.clusters && is_none v.rounds
-has_further further.Keys kind v = is_there (same_keys kind) v.keys && is_none v.patterns && is_none v.clusters && is_none v.rounds
-has_further further.Patterns kind v = is_none v.keys && is_some v.patterns && is_none v.clusters && is_none v.rounds
-has_further further.Means kind v = is_none v.keys && is_none v.patterns && is_some v.clusters && is_some v.rounds
+-- the key is there exactly where the row names it
+abbrev pub is_named : {A : Type 0} → Bool → Option A → Bool
+is_named true value = is_some value
+is_named false value = is_none value
 
--- job, container, combiner and reducer are in the row
-abbrev pub is_in_row : Row → Values → Bool
-is_in_row row v = is_there (λ job. is_there (λ container. is_there (λ combiner. is_row row job container row.keys combiner v.reducer) v.combiner) v.container) v.job
+-- of the further keys exactly those are there that the row names, and keys is the row's key kind
+abbrev pub has_further : Row → Values → Bool
+has_further row v =
+    is_named (same_further row.further further.Keys) v.keys
+    && is_named (same_further row.further further.Patterns) v.patterns
+    && is_named (same_further row.further further.Means) v.clusters
+    && is_named (same_further row.further further.Means) v.rounds
+    && option_map_or (same_keys row.keys) v.keys true
 
-abbrev pub fits_row : Values → Row → Bool
-fits_row v row = is_in_row row v && has_further row.further row.keys v
+-- the row has this job and container, this combiner with the reducer that the values have, and their further keys
+abbrev pub fits_row : Values → JobKind → ContainerKind → CombinerKind → Row → Bool
+fits_row v job container combiner row = is_row row job container row.keys combiner v.reducer && has_further row v
+
+-- the key kind of the first such row
+abbrev pub keys_in : List Row → Values → JobKind → ContainerKind → CombinerKind → Option KeyKind
+keys_in rows v job container combiner = option_map (λ row. row.keys) (find (fits_row v job container combiner) rows)
 
 -- a job as clauses see it: its fields, without the bounds that they keep
 pub record SeenJob : Type 0 where
@@ -74,19 +81,28 @@ pub record SeenJob : Type 0 where
 abbrev pub default_chunk : JobKind → ℕ
 default_chunk job = if is_text_job job then DEFAULT_TEXT_CHUNK else DEFAULT_CHUNK
 
--- the job of a row that the values fit. A needed key is there, so nothing ever stands in for its value
-abbrev pub job_in_row : Values → Row → SeenJob
-job_in_row v row = record {
-  job = row.job;
-  container = unwrap_or v.container container.Hash;
-  capacity = unwrap_or v.capacity 0;
-  keys = row.keys;
-  combiner = unwrap_or v.combiner combiner.Sum;
+-- the job of a row with this key kind; defaults stand in for what the file doesn't say
+abbrev pub job_with : Values → JobKind → ContainerKind → ℕ → CombinerKind → KeyKind → SeenJob
+job_with v job container capacity combiner keys = record {
+  job = job;
+  container = container;
+  capacity = capacity;
+  keys = keys;
+  combiner = combiner;
   reducer = v.reducer;
   queue = unwrap_or v.queue DEFAULT_QUEUE;
   partitions = unwrap_or v.partitions DEFAULT_PARTITIONS;
-  chunk = unwrap_or v.chunk (default_chunk row.job);
+  chunk = unwrap_or v.chunk (default_chunk job);
   clusters = unwrap_or v.clusters 0;
   rounds = unwrap_or v.rounds 0;
   patterns = unwrap_or v.patterns [];
 }
+
+abbrev pub job_by : Values → Option JobKind → Option ContainerKind → Option ℕ → Option CombinerKind → Option SeenJob
+job_by v (Some job) (Some container) (Some capacity) (Some combiner) =
+    option_map (job_with v job container capacity combiner) (keys_in rows v job container combiner)
+job_by v _ _ _ _ = None
+
+-- the job that the values mean, where they fit a row
+abbrev pub described : Values → Option SeenJob
+described v = job_by v v.job v.container v.capacity v.combiner

@@ -8,14 +8,17 @@
 #![tactic(auto)]
 
 mod built;
+mod defaults;
+mod document;
 mod fault;
+mod forms;
 mod job;
 mod key;
+mod pairing;
+mod read;
 mod values;
 
-pub use fault::JobFault;
+pub use fault::{JobFault, fault_text};
 pub use job::Job;
 pub use key::JobKey;
-
-/// The most bytes that a job file may have.
-pub const JOB_LIMIT: usize = 65536;
+pub use read::{JOB_LIMIT, read_job};

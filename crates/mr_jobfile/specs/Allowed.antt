@@ -1,0 +1,14 @@
+-- The bounds that a job keeps.
+use Rattle.std.specs.Prelude.{IsTrue, pos}
+use Rattle.mr_capacity.specs.Tables.{is_capacity, is_pairing}
+use Rattle.mr_jobfile.specs.Ranges.{is_within, is_count_of, are_patterns_of, has_means, has_patterns}
+use Rattle.mr_jobfile.specs.Values.{SeenJob}
+
+pub record IsAllowed (j : SeenJob) : Type 0 where
+  pub capacity : IsTrue (is_capacity (pos j.capacity))
+  pub pairing : IsTrue (is_pairing j.job j.container j.keys j.combiner j.reducer)
+  pub partitions : IsTrue (is_within 1 64 j.partitions)
+  pub chunk : IsTrue (is_within 1 16777216 j.chunk)
+  pub clusters : IsTrue (is_count_of (has_means j.job) 64 j.clusters)
+  pub rounds : IsTrue (is_count_of (has_means j.job) 1000 j.rounds)
+  pub patterns : IsTrue (are_patterns_of (has_patterns j.job) j.patterns)
