@@ -1,0 +1,3 @@
+pub mod Gained
+pub mod Front
+pub mod Entries
