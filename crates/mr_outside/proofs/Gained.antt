@@ -10,7 +10,9 @@ to_end : (bytes : List ℕ) (done : ℕ) → take (length bytes - done) (drop do
 to_end bytes done = ap (λ k. take k (drop done bytes)) (sym (length-drop done bytes)) ∙ take-length (drop done bytes)
 
 -- a front of the rest, appended after a front
-pub appends_more : (a b c : Option (List ℕ)) (bytes : List ℕ) (done n : ℕ) → Appends a b (take done bytes) → Appends b c (take n (take (length bytes - done) (drop done bytes))) → Appends a c (take (done + n) bytes)
+pub appends_more : (a b c : Option (List ℕ)) (bytes : List ℕ) (done n : ℕ) → Appends a b (take done bytes)
+    → Appends b c (take n (take (length bytes - done) (drop done bytes)))
+    → Appends a c (take (done + n) bytes)
 appends_more None b c bytes done n first next = tt
 appends_more (Some xs) None c bytes done n first next = absurd first
 appends_more (Some xs) (Some ys) None bytes done n first next = absurd next

@@ -23,5 +23,7 @@ name_at entries at = option_map (λ entry. entry.name) (option_and_then (slice_g
 -- the entry that is started is the first of its name, and the place stands in its content
 pub record IsAt (entries : List Entry) (at : Option ℕ) (place : ℕ) : Type 0 where
   pub inside : (k : ℕ) → at ≡ Some k → k < length entries
-  pub short : (k : ℕ) (entry : Entry) → at ≡ Some k → slice_get entries k ≡ Some entry → place ≤ length (content_of entry.body)
-  pub first : (k : ℕ) (entry : Entry) → at ≡ Some k → slice_get entries k ≡ Some entry → told (contents_of entries) entry.name ≡ Some (content_of entry.body)
+  pub short : (k : ℕ) (entry : Entry) → at ≡ Some k → slice_get entries k ≡ Some entry
+      → place ≤ length (content_of entry.body)
+  pub first : (k : ℕ) (entry : Entry) → at ≡ Some k → slice_get entries k ≡ Some entry
+      → told (contents_of entries) entry.name ≡ Some (content_of entry.body)

@@ -1,5 +1,5 @@
 ghost use Rattle.std.specs.Prelude.{◌≡◌, ◌++◌, ◌∷◌, [], OnOk, OnErr};
-ghost use Rattle.mr_outside.specs.Calls.{called, fails_next};
+ghost use Rattle.mr_outside.specs.Calls.{no_calls, failing_at, called, fails_next};
 
 use mr_base::Memory;
 use std::alloc::Global;
@@ -22,7 +22,7 @@ impl Model for Calls {
 
 impl Calls {
     pub fn new(alloc: Global) -> Calls
-        ensures { result ≡ record { made = 0; failing = [] } }
+        ensures { result ≡ no_calls }
     {
         Calls {
             made: 0,
@@ -31,7 +31,7 @@ impl Calls {
     }
 
     pub fn fail_at(&mut self, call: u64) -> Result<(), Memory>
-        ensures ok { OnOk result (self.new ≡ record self.old { failing = self.old.failing ++ call ∷ [] }) }
+        ensures ok { OnOk result (self.new ≡ failing_at call self.old) }
         ensures err { OnErr result (self.new ≡ self.old) }
     {
         self.failing.push(call)?;

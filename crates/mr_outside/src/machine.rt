@@ -17,7 +17,8 @@ pub struct FileShelf<'a, R: Files> {
 impl<'a, R: Files> FileShelf<'a, R> {
     /// A shelf over the files that `rt` reaches, with nothing started.
     pub fn new(rt: &'a R) -> FileShelf<'a, R>
-        ensures { (⟦<FileShelf<'a, R> as Shelf>⟧.is_started result ≡ false) × (⟦<FileShelf<'a, R> as Shelf>⟧.count result ≡ 0) }
+        ensures started { ⟦<FileShelf<'a, R> as Shelf>⟧.is_started result ≡ false }
+        ensures count { ⟦<FileShelf<'a, R> as Shelf>⟧.count result ≡ 0 }
     {
         FileShelf {
             rt,

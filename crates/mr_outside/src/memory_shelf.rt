@@ -1,5 +1,5 @@
 ghost use Rattle.std.specs.Prelude.{◌≡◌, ◌≤◌, ◌<◌, ◌+◌, ◌-◌, ◌^◌, ◌⊎◌, ◌↔◌, ◌++◌, ◌∷◌, [], ℕ, List, IfOk, IfSome, IfNone, OnOk, OnErr, IsTrue, Some, None, length, min, take, drop, replicate, slice_get, unwrap_or, is_some, true, false};
-ghost use Rattle.mr_outside.specs.Calls.{called, fails_next};
+ghost use Rattle.mr_outside.specs.Calls.{no_calls, failing_at, called, fails_next};
 ghost use Rattle.mr_outside.specs.Count.{Rose};
 ghost use Rattle.mr_outside.specs.Entry.{contents_of, content_of};
 ghost use Rattle.mr_outside.specs.MemoryShelf.{told, repeated, started_content, faults_after};
@@ -44,14 +44,23 @@ impl Model for MemoryShelf {
 
     ghost Value = { ShelfState };
 
-    ghost view = { λ m. record { contents = contents_of m.entries.items; cut = m.cut; started = name_at m.entries.items m.started; place = m.place; calls = m.calls; faults = m.faults } };
+    ghost view = { λ m. record {
+      contents = contents_of m.entries.items;
+      cut = m.cut;
+      started = name_at m.entries.items m.started;
+      place = m.place;
+      calls = m.calls;
+      faults = m.faults;
+    } };
 
     ghost invariant = { λ m. (1 ≤ m.cut) × IsAt m.entries.items m.started m.place };
 }
 
+// The place of the first entry of this name.
 fn find(entries: &[Entry], name: &str) -> Option<usize>
     ensures none { IfNone result (told (contents_of entries.now) name.now ≡ None) }
-    ensures some { IfSome result (λ k. (entry : Entry) × (slice_get entries.now k ≡ Some entry) × (entry.name ≡ name.now) × (told (contents_of entries.now) name.now ≡ Some (content_of entry.body))) }
+    ensures some { IfSome result (λ k. (entry : Entry) × (slice_get entries.now k ≡ Some entry) × (entry.name ≡ name.now)
+        × (told (contents_of entries.now) name.now ≡ Some (content_of entry.body))) }
 {
     for (k, entry) in entries.iter().enumerate() {
         if entry.name.as_str() == name {
@@ -61,6 +70,7 @@ fn find(entries: &[Entry], name: &str) -> Option<usize>
     None
 }
 
+// Puts this byte everywhere.
 fn fill(buf: &mut [u8], byte: u8)
     ensures { buf.new ≡ replicate (length buf.old) byte }
 {
@@ -96,7 +106,8 @@ impl MemoryShelf {
     /// An empty shelf whose reads give at most `cut` bytes each.
     pub fn new(alloc: Global, cut: u32) -> Result<MemoryShelf, Memory>
         requires { 1 ≤ cut }
-        ensures { IfOk result (λ shelf. shelf ≡ record { contents = []; cut = cut; started = None; place = 0; calls = record { made = 0; failing = [] }; faults = 0 }) }
+        ensures { IfOk result (λ shelf. shelf ≡ record
+            { contents = []; cut = cut; started = None; place = 0; calls = no_calls; faults = 0 }) }
     {
         Ok(MemoryShelf {
             alloc,
@@ -109,10 +120,11 @@ impl MemoryShelf {
         })
     }
 
-    /// Adds a content by a name that is not there yet.
+    /// Adds a copy of these bytes by a name that is not there yet.
     pub fn add(&mut self, name: &str, bytes: &[u8]) -> Result<(), Memory>
         requires { told self.old.contents name.now ≡ None }
-        ensures ok { OnOk result (self.new ≡ record self.old { contents = self.old.contents ++ (name.now, bytes.now) ∷ [] }) }
+        ensures ok { OnOk result (self.new ≡ record self.old
+            { contents = self.old.contents ++ (name.now, bytes.now) ∷ [] }) }
         ensures err { OnErr result (self.new ≡ self.old) }
     {
         let name = Word::of(self.alloc, name)?;
@@ -124,7 +136,8 @@ impl MemoryShelf {
     /// Adds `count` times one byte by a name that is not there yet. They are not stored.
     pub fn add_repeated(&mut self, name: &str, byte: u8, count: u64) -> Result<(), Memory>
         requires { told self.old.contents name.now ≡ None }
-        ensures ok { OnOk result (self.new ≡ record self.old { contents = self.old.contents ++ (name.now, repeated byte count) ∷ [] }) }
+        ensures ok { OnOk result (self.new ≡ record self.old
+            { contents = self.old.contents ++ (name.now, repeated byte count) ∷ [] }) }
         ensures err { OnErr result (self.new ≡ self.old) }
     {
         let name = Word::of(self.alloc, name)?;
@@ -133,9 +146,10 @@ impl MemoryShelf {
         Ok(())
     }
 
-    /// Makes the call of this number fail. Calls of `start` and `read` are numbered together from 1.
+    /// Makes the call of this number fail, which is then a fault. Calls of `start` and `read` are numbered together
+    /// from 1.
     pub fn fail_at(&mut self, call: u64) -> Result<(), Memory>
-        ensures ok { OnOk result (self.new ≡ record self.old { calls = record self.old.calls { failing = self.old.calls.failing ++ call ∷ [] } }) }
+        ensures ok { OnOk result (self.new ≡ record self.old { calls = failing_at call self.old.calls }) }
         ensures err { OnErr result (self.new ≡ self.old) }
     {
         self.calls.fail_at(call)
@@ -158,8 +172,10 @@ impl Shelf for MemoryShelf {
         ensures ready { result ≡ Started.Ready → self.new.started ≡ Some name.now }
         ensures none { result ≡ Started.Failed → self.new.started ≡ None }
 
-        ensures failed { (result ≡ Started.Failed) ↔ (IsTrue (fails_next self.old.calls) ⊎ (told self.old.contents name.now ≡ None)) }
-        ensures rest { self.new ≡ record self.old { started = self.new.started; place = 0; calls = called self.old.calls; faults = faults_after self.old } }
+        ensures failed { (result ≡ Started.Failed)
+            ↔ (IsTrue (fails_next self.old.calls) ⊎ (told self.old.contents name.now ≡ None)) }
+        ensures rest { self.new ≡ record self.old
+            { started = self.new.started; place = 0; calls = called self.old.calls; faults = faults_after self.old } }
     {
         self.started = None;
         self.place = 0;
@@ -180,13 +196,17 @@ impl Shelf for MemoryShelf {
         ensures later { self.old.faults ≤ self.new.faults }
         ensures bounds { IfBytes result (λ n. (1 ≤ n) × (n ≤ length buf.new)) }
         ensures moved { IfBytes result (λ n. self.new.place ≡ min (self.old.place + n) (2 ^ 64 - 1)) }
-        ensures bytes { IfBytes result (λ n. (content : List ℕ) → started_content self.old ≡ Some content → Gives content self.old.place n buf.new) }
+        ensures bytes { IfBytes result (λ n. (content : List ℕ) → started_content self.old ≡ Some content
+            → Gives content self.old.place n buf.new) }
         ensures still { OnNothing result (self.new.place ≡ self.old.place) }
-        ensures end { result ≡ Got.End → (content : List ℕ) → started_content self.old ≡ Some content → self.old.place ≡ length content }
+        ensures end { result ≡ Got.End → (content : List ℕ) → started_content self.old ≡ Some content
+            → self.old.place ≡ length content }
 
         ensures failed { (result ≡ Got.Failed) ↔ IsTrue (fails_next self.old.calls) }
-        ensures size { IfBytes result (λ n. (content : List ℕ) → started_content self.old ≡ Some content → n ≡ min (min (length buf.old) self.old.cut) (length content - self.old.place)) }
-        ensures rest { self.new ≡ record self.old { place = self.new.place; calls = called self.old.calls; faults = faults_after self.old } }
+        ensures size { IfBytes result (λ n. (content : List ℕ) → started_content self.old ≡ Some content
+            → n ≡ min (min (length buf.old) self.old.cut) (length content - self.old.place)) }
+        ensures rest { self.new ≡ record self.old
+            { place = self.new.place; calls = called self.old.calls; faults = faults_after self.old } }
     {
         if self.calls.next_fails() {
             self.faults = self.faults.saturating_add(1);

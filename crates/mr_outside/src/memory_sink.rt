@@ -1,5 +1,5 @@
 ghost use Rattle.std.specs.Prelude.{Some, ℕ, ◌≡◌, ◌≤◌, ◌<◌, ◌-◌, ◌+◌, ◌⊎◌, ◌↔◌, ◌++◌, ◌∷◌, [], min, length, IsTrue, IfOk, OnOk, OnErr};
-ghost use Rattle.mr_outside.specs.Calls.{called, fails_next};
+ghost use Rattle.mr_outside.specs.Calls.{no_calls, failing_at, called, fails_next};
 ghost use Rattle.mr_outside.specs.Count.{risen};
 ghost use Rattle.mr_outside.specs.Sink.{Takes};
 
@@ -24,7 +24,12 @@ impl Model for MemorySink {
 
     ghost Value = { SinkState };
 
-    ghost view = { λ s. record { bytes = s.bytes.items; room = s.room; calls = s.calls; faults = s.faults } };
+    ghost view = { λ s. record {
+      bytes = s.bytes.items;
+      room = s.room;
+      calls = s.calls;
+      faults = s.faults;
+    } };
 
     ghost invariant = { λ s. (vec_len s.bytes ≤ s.room) × (s.room ≤ vec_capacity s.bytes) };
 }
@@ -32,7 +37,7 @@ impl Model for MemorySink {
 impl MemorySink {
     /// An empty sink that takes `room` bytes in all. Its memory is taken at once.
     pub fn new(alloc: Global, room: u64) -> Result<MemorySink, Memory>
-        ensures { IfOk result (λ sink. sink ≡ record { bytes = []; room = room; calls = record { made = 0; failing = [] }; faults = 0 }) }
+        ensures { IfOk result (λ sink. sink ≡ record { bytes = []; room = room; calls = no_calls; faults = 0 }) }
     {
         Ok(MemorySink {
             bytes: Vec::with_capacity(alloc, room as usize)?,
@@ -42,9 +47,9 @@ impl MemorySink {
         })
     }
 
-    /// Makes the call of `write` of this number fail. The first call has the number 1.
+    /// Makes the call of `write` of this number fail, which is then a fault. The calls are numbered from 1.
     pub fn fail_at(&mut self, call: u64) -> Result<(), Memory>
-        ensures ok { OnOk result (self.new ≡ record self.old { calls = record self.old.calls { failing = self.old.calls.failing ++ call ∷ [] } }) }
+        ensures ok { OnOk result (self.new ≡ record self.old { calls = failing_at call self.old.calls }) }
         ensures err { OnErr result (self.new ≡ self.old) }
     {
         self.calls.fail_at(call)
@@ -69,8 +74,10 @@ impl Sink for MemorySink {
         ensures later { self.old.faults ≤ self.new.faults }
         ensures quiet { (n : ℕ) → result ≡ Put.Took n → self.new.faults ≡ self.old.faults }
 
-        ensures failed { (result ≡ Put.Failed) ↔ ((self.old.room ≤ length self.old.bytes) ⊎ IsTrue (fails_next self.old.calls)) }
-        ensures took { (n : ℕ) → result ≡ Put.Took n → n ≡ min (length piece.now) (self.old.room - length self.old.bytes) }
+        ensures failed { (result ≡ Put.Failed)
+            ↔ ((self.old.room ≤ length self.old.bytes) ⊎ IsTrue (fails_next self.old.calls)) }
+        ensures took { (n : ℕ) → result ≡ Put.Took n
+            → n ≡ min (length piece.now) (self.old.room - length self.old.bytes) }
         ensures counted { result ≡ Put.Failed → self.new.faults ≡ risen self.old.faults }
         ensures rest { (self.new.room ≡ self.old.room) × (self.new.calls ≡ called self.old.calls) }
     {

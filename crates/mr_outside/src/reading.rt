@@ -67,16 +67,21 @@ pub fn read_all<H: Shelf>(
     ensures later { H.count shelf.old ≤ H.count shelf.new }
     ensures quiet { UnlessFault result (H.count shelf.new ≡ H.count shelf.old) }
     ensures started { UnlessFault result (H.is_started shelf.new ≡ true) }
-    ensures named { is_some (H.contents shelf.old) ≡ true → H.is_started shelf.new ≡ true → H.started shelf.new ≡ name.now }
+    ensures named { is_some (H.contents shelf.old) ≡ true → H.is_started shelf.new ≡ true
+        → H.started shelf.new ≡ name.now }
 
-    ensures whole { IfOk result (λ taken. HasContent (H.contents shelf.old) name.now (λ content. taken ≡ content)) }
+    ensures whole { IfOk result (λ taken.
+        HasContent (H.contents shelf.old) name.now (λ content. taken ≡ content)) }
     ensures short { IfOk result (λ taken. (length taken ≤ limit) × (H.place shelf.new ≡ length taken)) }
 
-    ensures too_long { result ≡ Err (Stop.Refused ReadStop.TooLong) → (H.place shelf.new ≡ limit + 1) × HasContent (H.contents shelf.old) name.now (λ content. limit < length content) }
-    ensures at_limit { H.place shelf.new ≡ limit + 1 → (result ≡ Err (Stop.Refused ReadStop.TooLong)) ⊎ (result ≡ Err Stop.Memory) }
+    ensures too_long { result ≡ Err (Stop.Refused ReadStop.TooLong) → (H.place shelf.new ≡ limit + 1)
+        × HasContent (H.contents shelf.old) name.now (λ content. limit < length content) }
+    ensures at_limit { H.place shelf.new ≡ limit + 1
+        → (result ≡ Err (Stop.Refused ReadStop.TooLong)) ⊎ (result ≡ Err Stop.Memory) }
 
     ensures missing { IsMissing (H.contents shelf.old) name.now → IsFault result }
-    ensures fault { IsFault result → Rose (H.count shelf.old) (H.count shelf.new) ⊎ IsMissing (H.contents shelf.old) name.now }
+    ensures fault { IsFault result
+        → Rose (H.count shelf.old) (H.count shelf.new) ⊎ IsMissing (H.contents shelf.old) name.now }
 {
     match shelf.start(name) {
         Started::Ready => {}

@@ -49,12 +49,14 @@ pub trait Shelf {
         ensures quiet { result ≡ Started.Ready → count self.new ≡ count self.old }
 
         ensures ready { result ≡ Started.Ready → is_started self.new ≡ true }
-        ensures name { result ≡ Started.Ready → is_some (contents self.old) ≡ true → started self.new ≡ name.now }
+        ensures name { result ≡ Started.Ready → is_some (contents self.old) ≡ true
+            → started self.new ≡ name.now }
         ensures none { result ≡ Started.Failed → is_started self.new ≡ false }
         ensures place { place self.new ≡ 0 }
 
         ensures missing { IsMissing (contents self.old) name.now → result ≡ Started.Failed }
-        ensures cause { result ≡ Started.Failed → Rose (count self.old) (count self.new) ⊎ IsMissing (contents self.old) name.now };
+        ensures cause { result ≡ Started.Failed
+            → Rose (count self.old) (count self.new) ⊎ IsMissing (contents self.old) name.now };
 
     /// Reads the next bytes of the name that is started into the front of `buf`, which has room for one at least.
     ///
@@ -71,10 +73,12 @@ pub trait Shelf {
 
         ensures bounds { IfBytes result (λ n. (1 ≤ n) × (n ≤ length buf.new)) }
         ensures moved { IfBytes result (λ n. place self.new ≡ min (place self.old + n) (2 ^ 64 - 1)) }
-        ensures bytes { IfBytes result (λ n. (content : List ℕ) → IsTold (contents self.old) (started self.old) content → Gives content (place self.old) n buf.new) }
+        ensures bytes { IfBytes result (λ n. (content : List ℕ) → IsTold (contents self.old) (started self.old) content
+            → Gives content (place self.old) n buf.new) }
 
         ensures still { OnNothing result (place self.new ≡ place self.old) }
-        ensures end { result ≡ Got.End → (content : List ℕ) → IsTold (contents self.old) (started self.old) content → place self.old ≡ length content }
+        ensures end { result ≡ Got.End → (content : List ℕ) → IsTold (contents self.old) (started self.old) content
+            → place self.old ≡ length content }
         ensures cause { result ≡ Got.Failed → Rose (count self.old) (count self.new) };
 
     /// The count of faults. It never falls, and stands still at 2^64 - 1.

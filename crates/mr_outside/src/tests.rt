@@ -3,7 +3,7 @@ use mr_base::Stop;
 use std::alloc::Global;
 use std::io::Write;
 use std::test::Fail;
-use std::{fs, io};
+use std::{env, fs, io, process};
 
 const LIMIT: u64 = 134217728;
 
@@ -105,7 +105,12 @@ fn takes_what_it_has_room_for(rt: HostRuntime) -> Result<(), Fail> {
 #[test]
 fn writes_and_reads_a_file(rt: HostRuntime) -> Result<(), Fail> {
     let alloc = rt.alloc();
-    let path = format!(in alloc; "/tmp/mr_outside_{}", std::process::id(rt.process()))?;
+    let folder = env::temp_dir(&rt)?;
+    let path = format!(in alloc;
+        "{}/mr_outside_{}",
+        folder.display(),
+        process::id(rt.process())
+    )?;
     let path = path.as_str();
     let mut sink = StdSink::new(fs::create(&rt, path)?);
     assert_eq!(rt; put_all(&mut sink, b"the cat the dog"), Ok(()));
@@ -125,7 +130,7 @@ fn writes_and_reads_a_file(rt: HostRuntime) -> Result<(), Fail> {
     // a name that is not there, and a folder, which can't be read
     assert!(rt; is_fault(&read_all(alloc, &mut shelf, path, LIMIT)));
     assert_eq!(rt; shelf.faults(), 1);
-    assert!(rt; is_fault(&read_all(alloc, &mut shelf, "/tmp", LIMIT)));
+    assert!(rt; is_fault(&read_all(alloc, &mut shelf, folder.as_str(), LIMIT)));
     assert_eq!(rt; shelf.faults(), 2);
     Ok(())
 }
@@ -163,7 +168,7 @@ fn counts_the_faults_of_a_writer(rt: HostRuntime) {
     }
 }
 
-fn pass<G: Gate>(gate: &G) {
+fn pass<G: Gate + Sync>(gate: &G) {
     gate.enter(0, 0);
 }
 
