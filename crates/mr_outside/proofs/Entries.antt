@@ -65,7 +65,9 @@ told_first false x y z content later is = later is
 told-push : (contents : List (List ℕ × List ℕ)) (more : List ℕ × List ℕ) (name content : List ℕ)
     → told contents name ≡ Some content → told (contents ++ more ∷ []) name ≡ Some content
 told-push [] more name content is = cc
-told-push (x ∷ contents) more name content is = told_first (bytes_eq x.0 name) (Some x.1) (told contents name) (told (contents ++ more ∷ []) name) content (told-push contents more name content) is
+told-push (x ∷ contents) more name content is =
+    let later = told-push contents more name content in
+    told_first (bytes_eq x.0 name) (Some x.1) (told contents name) (told (contents ++ more ∷ []) name) content later is
 
 -- what is started stays so under one entry more
 pub IsAt-push : (entries : List Entry) (entry : Entry) (at : Option ℕ) (place : ℕ) → IsAt entries at place
