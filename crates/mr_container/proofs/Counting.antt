@@ -56,7 +56,7 @@ module _ {K : Type 0} (R : K → K → Ordering) (one : IsAntisymmetric R) (q : 
       regrouped false b c = refl
 
   -- the different keys of a list are those of the list
-  any-ascending : (ks : List K) → list_any (eq_by_cmp R q) (ascending R ks) ≡ list_any (eq_by_cmp R q) ks
+  pub any-ascending : (ks : List K) → list_any (eq_by_cmp R q) (ascending R ks) ≡ list_any (eq_by_cmp R q) ks
   any-ascending ks = any-fold ks [] ∙ or_none (list_any (eq_by_cmp R q) ks)
 
 module _ {K : Type 0} (R : K → K → Ordering) (inside : K → Bool) where
