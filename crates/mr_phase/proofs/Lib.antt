@@ -1,0 +1,4 @@
+pub mod Ascending
+pub mod SameKeys
+pub mod Final
+pub mod Turns
