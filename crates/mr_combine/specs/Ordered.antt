@@ -64,7 +64,7 @@ buffer_commutative = record {
   assoc = λ xs ys zs. left_in_order (xs ++ ys) zs ∙ ap in_order (append_assoc xs ys zs) ∙ sym (right_in_order xs (ys ++ zs));
 }
 
-both_in_order : (xs ys : List ℤ) → buffer_merged (in_order xs) (in_order ys) ≡ in_order (xs ++ ys)
+pub both_in_order : (xs ys : List ℤ) → buffer_merged (in_order xs) (in_order ys) ≡ in_order (xs ++ ys)
 both_in_order xs ys = left_in_order xs (in_order ys) ∙ right_in_order xs ys
 
 values_total : IsTotal {V = ℤ} {A = List ℤ} ◌++◌ (λ v. v ∷ []) (λ vs. vs)

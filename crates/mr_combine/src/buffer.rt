@@ -1,11 +1,12 @@
-ghost use Rattle.std.specs.Prelude.{◌≡◌, ◌≤◌, false, length};
+ghost use Rattle.std.specs.Prelude.{◌≡◌, ◌≤◌, false, length, IfOk};
 ghost use Rattle.std.specs.List.Sorted.{IsSorted};
 ghost use Rattle.std.specs.Ordering.{int_cmp};
+ghost use Rattle.mr_defs.specs.Folded.{list_folded, distinct_folded, median_folded};
 ghost use Rattle.mr_combine.specs.Joining.{never, never_stays};
-ghost use Rattle.mr_combine.specs.Ordered.{buffer_unit, buffer_merged, buffer_commutative};
+ghost use Rattle.mr_combine.specs.Ordered.{buffer_unit, buffer_merged, buffer_commutative, list_answer, list_is_fold, distinct_answer, distinct_is_fold, median_answer, median_is_fold};
 
-use crate::combiner::Combiner;
-use mr_base::Memory;
+use crate::combiner::{Combiner, Reducer};
+use mr_base::{Answer, Few, Memory};
 use std::alloc::Global;
 use std::marker::Model;
 
@@ -51,6 +52,7 @@ impl Combiner for Buffer {
         Ok(BufferCell { values })
     }
 
+    #[tactic(auto, using(crate::specs::Ordered::left_in_order))]
     fn add(cell: &mut BufferCell, value: i64) -> Result<(), Memory> {
         cell.values.push(value)?;
         Ok(())
@@ -61,6 +63,7 @@ impl Combiner for Buffer {
         Ok(BufferCell { values })
     }
 
+    #[tactic(auto, using(crate::specs::Ordered::both_in_order))]
     fn merge(into: &mut BufferCell, from: &BufferCell) -> Result<(), Memory> {
         into.values.extend_from_slice(&from.values)?;
         Ok(())
@@ -71,8 +74,57 @@ impl Combiner for Buffer {
     }
 }
 
+/// Answers all values of a buffer, ascending.
+pub struct List;
+
+impl Reducer<Buffer> for List {
+    ghost answer = { list_answer };
+
+    ghost folded = { list_folded };
+
+    ghost is_fold = { list_is_fold };
+
+    fn reduce(alloc: Global, cell: BufferCell) -> Result<Answer, Memory> {
+        let values = sorted(cell);
+        numbers(alloc, &values)
+    }
+}
+
+/// Answers each different value of a buffer once, ascending.
+pub struct Distinct;
+
+impl Reducer<Buffer> for Distinct {
+    ghost answer = { distinct_answer };
+
+    ghost folded = { distinct_folded };
+
+    ghost is_fold = { distinct_is_fold };
+
+    fn reduce(alloc: Global, cell: BufferCell) -> Result<Answer, Memory> {
+        let values = different(cell);
+        numbers(alloc, &values)
+    }
+}
+
+/// Answers the value of a buffer that stands at place `floor((n - 1) / 2)` of its `n` values in ascending order.
+pub struct Median;
+
+impl Reducer<Buffer> for Median {
+    ghost answer = { median_answer };
+
+    ghost folded = { median_folded };
+
+    ghost is_fold = { median_is_fold };
+
+    fn reduce(_alloc: Global, cell: BufferCell) -> Result<Answer, Memory> {
+        let ordered = sorted(cell);
+        let middle = (ordered.len() - 1) / 2;
+        Ok(Answer::one(ordered[middle] as i128))
+    }
+}
+
 /// The values of a cell, ascending.
-pub fn sorted(cell: BufferCell) -> Vec<i64>
+fn sorted(cell: BufferCell) -> Vec<i64>
     ensures values { result.items ≡ cell }
     ensures rises { IsSorted int_cmp result.items }
     ensures one { 1 ≤ length result.items }
@@ -80,4 +132,26 @@ pub fn sorted(cell: BufferCell) -> Vec<i64>
     let mut values = cell.values;
     values.sort_unstable();
     values
+}
+
+/// The different values of a cell, ascending.
+fn different(cell: BufferCell) -> Vec<i64>
+    ensures { result.items ≡ distinct_answer cell }
+{
+    let mut values = sorted(cell);
+    values.dedup();
+    values
+}
+
+/// The answer of these numbers.
+fn numbers(alloc: Global, values: &[i64]) -> Result<Answer, Memory>
+    ensures { IfOk result (λ answer. answer ≡ values.now) }
+{
+    let room = u32::try_from(values.len()).unwrap_or(u32::MAX);
+    let mut few = Few::with_room(alloc, room)?;
+    for value in values {
+        few.room()?;
+        few.push(*value as i128);
+    }
+    Ok(Answer::many(few))
 }

@@ -15,7 +15,6 @@ mod coordinates;
 mod count;
 mod operation;
 mod points;
-mod reducers;
 mod scalar;
 mod single;
 mod sum;
@@ -23,12 +22,11 @@ mod sum;
 mod tests;
 
 pub use both::Both;
-pub use buffer::{Buffer, BufferCell};
+pub use buffer::{Buffer, BufferCell, Distinct, List, Median};
 pub use combiner::{Combiner, FixedCombiner, Reducer};
 pub use count::{Count, CountCell};
 pub use operation::{And, Max, Min, One, Or, Xor};
 pub use points::{Point, VecSum, VecSumCell};
-pub use reducers::{Distinct, List, Median};
 pub use single::{Plain, Single};
 pub use sum::{Sum, SumCell};
 

@@ -3,7 +3,7 @@ use Rattle.std.specs.Ordering.{int_cmp, int_eq}
 use Rattle.std.proofs.lemmas.List.Filters.{dedup_is}
 use Rattle.mr_defs.specs.Keyed.{ascending}
 use Rattle.mr_combine.proofs.Sorted.{sorted_deduped}
-use Rattle.mr_combine.proofs.reducers.different.Goals as goal
+use Rattle.mr_combine.proofs.buffer.different.Goals as goal
 
 pub returns : goal.returns
 returns c =
