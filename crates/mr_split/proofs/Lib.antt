@@ -1,4 +1,4 @@
 mod Forward
 mod Between
-mod Whole
+pub mod Whole
 mod Strides

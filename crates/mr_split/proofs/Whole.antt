@@ -118,15 +118,28 @@ pub kind_ends : (kind : Boundary) (bytes : List ℕ) → boundary_of kind bytes 
 kind_ends Boundary.Word bytes = or_right (length bytes == 0) _ (or_left _ _ (eq-eqb (length bytes) (length bytes) refl))
 kind_ends Boundary.Line bytes = or_right _ (length bytes == length bytes) (eq-eqb (length bytes) (length bytes) refl)
 
-pub each_of : (kind : Boundary) (bytes : List ℕ) (chunk : ℕ) → 1 ≤ step_of chunk (length bytes) → All (IsPiece (boundary_of kind bytes) (length bytes)) (pieces_of (boundary_of kind bytes) chunk (length bytes))
-each_of kind bytes chunk some =
+each_of_some : (kind : Boundary) (bytes : List ℕ) (chunk : ℕ) → 1 ≤ step_of chunk (length bytes) → All (IsPiece (boundary_of kind bytes) (length bytes)) (pieces_of (boundary_of kind bytes) chunk (length bytes))
+each_of_some kind bytes chunk some =
     let b = boundary_of kind bytes in
     let len = length bytes in
+    let step = step_of chunk len in
     let end = kind_ends kind bytes in
+    let most : (len - 1) / step * step ≤ len - 1 = div-mul-le_self (len - 1) step in
     subst (All (IsPiece b len)) (pieces_of-moved b len end chunk some)
-    (each_part b len end 0 (moved b len (step_of chunk len) ((len - 1) / step_of chunk len)) (omega arith) (kind_starts kind bytes)
-    (rise_from b len end (step_of chunk len) 0 1 ((len - 1) / step_of chunk len) (λ q from to. omega arith)
-    (let most : (len - 1) / step_of chunk len * step_of chunk len ≤ len - 1 = div-mul-le_self (len - 1) (step_of chunk len) in omega (arith, most))))
+    (each_part b len end 0 (moved b len step ((len - 1) / step)) (omega arith) (kind_starts kind bytes)
+    (rise_from b len end step 0 1 ((len - 1) / step) (λ q from to. omega arith) (omega (arith, most))))
+
+-- each piece of a text, whatever the chunk
+pub each_of : (kind : Boundary) (bytes : List ℕ) (chunk : ℕ) → All (IsPiece (boundary_of kind bytes) (length bytes)) (pieces_of (boundary_of kind bytes) chunk (length bytes))
+each_of kind bytes chunk = elim (cases_lt 0 (length bytes)) [
+  | inl some ↦ each_of_some kind bytes chunk (omega (arith, some))
+  | inr none ↦
+      let e : (length bytes == 0) ≡ true = eq-eqb (length bytes) 0 (omega (arith, none)) in
+      subst (All (IsPiece (boundary_of kind bytes) (length bytes))) (sym (no_piece (boundary_of kind bytes) chunk (length bytes) e)) (All-nil (IsPiece (boundary_of kind bytes) (length bytes)))
+]
+  where
+    no_piece : (b : ℕ → Bool) (chunk size : ℕ) → (size == 0) ≡ true → pieces_of b chunk size ≡ []
+    no_piece b chunk size e = rw e refl
 
 -- the bytes of adjacent parts, joined
 module _ (bytes : List ℕ) where

@@ -13,7 +13,7 @@ pub enum Boundary {
 }
 
 /// Whether a byte belongs to a word: an ASCII letter, an ASCII digit, the apostrophe, or a byte from 128.
-pub fn is_word_byte(byte: u8) -> bool
+fn is_word_byte(byte: u8) -> bool
     ensures { result ≡ words.is_word_byte byte }
 {
     byte.is_ascii_alphanumeric() || byte == b'\'' || byte >= 128

@@ -10,7 +10,7 @@ mod boundary;
 mod cutting;
 mod part;
 
-pub use boundary::{Boundary, is_word_byte};
+pub use boundary::Boundary;
 pub use cutting::{pieces, spans};
 pub use part::{Piece, Pieces, Span, Spans};
 

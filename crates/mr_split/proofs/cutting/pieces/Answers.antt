@@ -10,8 +10,7 @@ use Rattle.mr_split.proofs.cutting.pieces.Goals as goal
 
 pub returns-clause-each : goal.returns-clause-each
 returns-clause-each c =
-    subst (All (IsPiece (boundary_of c.args.kind c.args.bytes.now) (length c.args.bytes.now))) (sym c.in_ok-pieces.ensures.exact)
-    (each_of c.args.kind c.args.bytes.now c.args.chunk (let some : 1 ≤ step_of c.args.chunk (length c.args.bytes.now) = omega (arith, c.requires.chunk) in some))
+    subst (All (IsPiece (boundary_of c.args.kind c.args.bytes.now) (length c.args.bytes.now))) (sym c.in_ok-pieces.ensures.exact) (each_of c.args.kind c.args.bytes.now c.args.chunk)
 
 pub returns-clause-joined : goal.returns-clause-joined
 returns-clause-joined c =
