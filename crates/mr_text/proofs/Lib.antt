@@ -1,0 +1,5 @@
+mod Scans
+mod NextWord
+mod Emitted
+mod Numbered
+mod Read

@@ -1,0 +1,23 @@
+-- Where a run of bytes that pass a test ends, from a place on.
+use Rattle.std.proofs.Common.{◌≡◌, ℕ, ◌+◌, ◌-◌, ◌<◌, ◌≤◌, Bool, true, false, List, length, drop, get_or, sym, ◌∙◌, ap, arith}
+use Rattle.std.specs.List.{prefix_len}
+use Rattle.std.proofs.lemmas.List.{length-drop, get_or-drop}
+use Rattle.std.proofs.lemmas.List.Sums.{prefix_len_passes, prefix_len_stops, prefix_len-le-length}
+
+module _ (p : ℕ → Bool) (xs : List ℕ) (a : ℕ) where
+  abbrev pub run_end : ℕ
+  run_end = a + prefix_len p (drop a xs)
+
+  size : length (drop a xs) ≡ length xs - a
+  size = length-drop a xs
+
+  pub run_end_bound : a ≤ length xs → run_end ≤ length xs
+  run_end_bound le = omega (arith, size, prefix_len-le-length p (drop a xs))
+
+  pub run_passes : (k : ℕ) → a ≤ k → k < run_end → p (get_or xs k 0) ≡ true
+  run_passes k from below =
+      let there : a + (k - a) ≡ k = omega arith in
+      ap p (sym (get_or-drop a xs (k - a) 0 ∙ ap (λ i. get_or xs i 0) there)) ∙ prefix_len_passes p (drop a xs) (k - a) 0 (omega arith)
+
+  pub run_stops : run_end < length xs → p (get_or xs run_end 0) ≡ false
+  run_stops below = ap p (sym (get_or-drop a xs (prefix_len p (drop a xs)) 0)) ∙ prefix_len_stops p (drop a xs) 0 (omega (arith, size, below))
