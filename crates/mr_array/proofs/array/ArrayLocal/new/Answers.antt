@@ -1,0 +1,11 @@
+use Rattle.std.proofs.Common.{◌∙◌, ap}
+use Rattle.mr_container.proofs.Emitted.{stands_empty}
+use Rattle.mr_array.specs.Cells.{is_below, cell_in, filled}
+use Rattle.mr_array.proofs.Places.{none_there, none_filled}
+use Rattle.mr_array.proofs.array.ArrayLocal.new.Goals as goal
+
+pub returns-clause-empty : goal.returns-clause-empty
+returns-clause-empty g c =
+    let none = c.none.ensures in
+    let cells = c.in_ok-cells.ensures.items in
+    stands_empty (is_below g.row.N) g.C.Combiner.unit_of g.C.Combiner.merged _ _ _ (λ q. ap (λ l. cell_in l q) cells ∙ none_there g.row.N q) (ap filled cells ∙ none_filled g.row.C-Cell.Denot g.row.N) none.malformed none.outside none.twice none.over
