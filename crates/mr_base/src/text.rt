@@ -1,15 +1,29 @@
-ghost use Rattle.std.specs.Prelude.{◌≡◌, ◌++◌, [], OnOk, OnErr};
+ghost use Rattle.std.specs.Prelude.{◌≡◌, ◌++◌, [], IfOk, OnOk, OnErr};
 ghost use Rattle.std.specs.Fmt.{signed_decimal};
+ghost use Rattle.mr_items.specs.FaultLines.{shown_byte, shown_text};
 
 use crate::memory::Memory;
 use itoa::Buffer;
 use std::alloc::Global;
 use std::marker::Model;
 
+fn shown_byte(byte: u8) -> u8
+    ensures { result ≡ shown_byte byte }
+{
+    if 33 <= byte && byte <= 126 { byte } else { b'?' }
+}
+
+fn shown_text(alloc: Global, key: &[u8]) -> Result<Vec<u8>, Memory>
+    ensures { IfOk result (λ v. v.items ≡ shown_text key.now) }
+{
+    Ok(key.iter().take(64).map(|byte| shown_byte(*byte)).collect(alloc)?)
+}
+
 /// Bytes that are to be written, seen as the list of them.
 #[derive(Drop)]
 pub struct Text {
     bytes: Vec<u8>,
+    alloc: Global,
 }
 
 impl Model for Text {
@@ -27,6 +41,7 @@ impl Text {
     {
         Text {
             bytes: Vec::new(alloc),
+            alloc,
         }
     }
 
@@ -46,6 +61,16 @@ impl Text {
     {
         let mut buffer = Buffer::new();
         self.push(buffer.format(n).as_bytes())
+    }
+
+    /// Appends what a line shows of a key: its first 64 bytes, with `?` in place of each outside 33 to 126. After want of memory the text is
+    /// as before.
+    pub fn push_shown(&mut self, key: &[u8]) -> Result<(), Memory>
+        ensures ok { OnOk result (self.new ≡ self.old ++ shown_text key.now) }
+        ensures err { OnErr result (self.new ≡ self.old) }
+    {
+        let shown = shown_text(self.alloc, key)?;
+        self.push(&shown)
     }
 
     /// The bytes.
