@@ -7,6 +7,7 @@
 //! Its promise: `capacity_allowed` and `pairing_allowed` are true exactly for what the tables list.
 #![tactic(auto)]
 
+mod dispatch;
 mod kinds;
 mod names;
 mod tables;

@@ -1,0 +1,47 @@
+//! The program `mapred`: it runs the command of its words over the files of the machine.
+//!
+//! The words are handed to `mr_top::run` with a shelf of files, the standard output and the standard error; the exit status is the code of the
+//! status that `run` answers. Nothing is decided here but what to do where the words can't be had: status 2 where one is no text, and 10 where
+//! there is no memory for them.
+#![tactic(auto)]
+
+use mr_base::{Memory, Status, Word};
+use mr_outside::{FileShelf, PassGate, StdSink, put_all};
+use mr_top::{MEMORY_LINE, USAGE_LINE, run};
+use std::alloc::{AllocError, Global};
+use std::io::Write;
+use std::process::ExitCode;
+
+fn words_of(alloc: Global, texts: &[String]) -> Result<Vec<Word>, Memory> {
+    let mut words = Vec::new(alloc);
+    for text in texts {
+        words.push(Word::of(alloc, text.as_str())?)?;
+    }
+    Ok(words)
+}
+
+// Ends without a run, with the line that says so.
+fn ended<W: Write + Drop>(err: W, line: &[u8], status: Status) -> ExitCode {
+    let mut err = StdSink::new(err);
+    let _ = put_all(&mut err, line);
+    ExitCode::from(status.code())
+}
+
+fn main(rt: HostRuntime) -> ExitCode {
+    let alloc = rt.alloc();
+    let Ok(args) = std::env::args(&rt) else {
+        return ended(rt.stderr(), USAGE_LINE, Status::Usage);
+    };
+    let collected: Result<Vec<String>, AllocError> = args.collect(alloc);
+    let Ok(texts) = collected else {
+        return ended(rt.stderr(), MEMORY_LINE, Status::Memory);
+    };
+    let Ok(words) = words_of(alloc, texts.as_slice()) else {
+        return ended(rt.stderr(), MEMORY_LINE, Status::Memory);
+    };
+    let mut shelf = FileShelf::new(&rt);
+    let mut out = StdSink::new(rt.stdout());
+    let mut err = StdSink::new(rt.stderr());
+    let status = run(&rt, alloc, &words, &mut shelf, &mut out, &mut err, &PassGate::new());
+    ExitCode::from(status.code())
+}

@@ -1,0 +1,6 @@
+mod Same
+mod Stops
+mod InTurn
+mod Counted
+mod Steps
+mod Built
