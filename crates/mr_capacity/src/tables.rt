@@ -2,7 +2,17 @@ ghost use Rattle.std.specs.Prelude.{◌≡◌};
 ghost use Rattle.std.specs.List.{list_any};
 ghost use Rattle.mr_capacity.specs.Tables.{has_parts, is_row, seen_row, is_capacity, is_pairing};
 
-use crate::kinds::{CombinerKind, ContainerKind, JobKind, KeyKind, ReducerKind};
+use crate::kinds::CombinerKind::{
+    self, And, Buffer, Count, Max, Min, MinMax, Once, One, Or, Sum, SumCount, VecSum, Xor,
+};
+use crate::kinds::ContainerKind::{self, Array, Common, Hash};
+use crate::kinds::JobKind::{
+    self, FoldLines, Histogram, InvertedIndex, KMeans, LinearRegression, MatrixProduct, Pca,
+    StringMatch, WordCount,
+};
+use crate::kinds::KeyKind::{self, Bytes, Numbers};
+use crate::kinds::ReducerKind::{self, Distinct, List, Median};
+use Further::{Keys, Means, Nothing, Patterns};
 
 /// The numbers that a capacity may be: the buckets of a hash table, or the keys of an array.
 pub const CAPACITIES: [i64; 8] = [16, 64, 256, 768, 1024, 4096, 16384, 65536];
@@ -30,143 +40,47 @@ pub type Pairing = (
     Further,
 );
 
-const HASH: [ContainerKind; 1] = [ContainerKind::Hash];
+// Containers: a hash table, those that each worker has for itself, and the array that all share.
+const HASH: [ContainerKind; 1] = [Hash];
 
-const OWN: [ContainerKind; 2] = [ContainerKind::Hash, ContainerKind::Array];
+const OWN: [ContainerKind; 2] = [Hash, Array];
 
-const COMMON: [ContainerKind; 1] = [ContainerKind::Common];
+const COMMON: [ContainerKind; 1] = [Common];
 
-const PLAIN: [CombinerKind; 10] = [
-    CombinerKind::Sum,
-    CombinerKind::Min,
-    CombinerKind::Max,
-    CombinerKind::One,
-    CombinerKind::Count,
-    CombinerKind::And,
-    CombinerKind::Or,
-    CombinerKind::Xor,
-    CombinerKind::MinMax,
-    CombinerKind::SumCount,
-];
+// Combiners: those that fold whole numbers without keeping them, those that count, those of the places of a word, and single ones.
+const PLAIN: [CombinerKind; 10] = [Sum, Min, Max, One, Count, And, Or, Xor, MinMax, SumCount];
 
-const COUNTS: [CombinerKind; 3] = [CombinerKind::Sum, CombinerKind::Count, CombinerKind::One];
+const COUNTS: [CombinerKind; 3] = [Sum, Count, One];
 
-const PLACES: [CombinerKind; 3] = [CombinerKind::Min, CombinerKind::Max, CombinerKind::Count];
+const PLACES: [CombinerKind; 3] = [Min, Max, Count];
 
-const SUM: [CombinerKind; 1] = [CombinerKind::Sum];
+const SUM: [CombinerKind; 1] = [Sum];
 
-const VEC_SUM: [CombinerKind; 1] = [CombinerKind::VecSum];
+const VEC_SUM: [CombinerKind; 1] = [VecSum];
 
-const ONCE: [CombinerKind; 1] = [CombinerKind::Once];
+const ONCE: [CombinerKind; 1] = [Once];
 
+// Reducers of a buffer.
 const NONE: [ReducerKind; 0] = [];
 
-const EACH: [ReducerKind; 3] = [
-    ReducerKind::List,
-    ReducerKind::Median,
-    ReducerKind::Distinct,
-];
+const EACH: [ReducerKind; 3] = [List, Median, Distinct];
 
-const LISTS: [ReducerKind; 2] = [ReducerKind::List, ReducerKind::Distinct];
+const LISTS: [ReducerKind; 2] = [List, Distinct];
 
-/// What goes together.
+/// What goes together. A new pairing is one line.
 pub const PAIRINGS: [Pairing; 12] = [
-    (
-        JobKind::WordCount,
-        KeyKind::Bytes,
-        &HASH,
-        &COUNTS,
-        &NONE,
-        Further::Nothing,
-    ),
-    (
-        JobKind::FoldLines,
-        KeyKind::Bytes,
-        &HASH,
-        &PLAIN,
-        &EACH,
-        Further::Keys,
-    ),
-    (
-        JobKind::FoldLines,
-        KeyKind::Numbers,
-        &OWN,
-        &PLAIN,
-        &EACH,
-        Further::Keys,
-    ),
-    (
-        JobKind::FoldLines,
-        KeyKind::Numbers,
-        &COMMON,
-        &ONCE,
-        &NONE,
-        Further::Keys,
-    ),
-    (
-        JobKind::InvertedIndex,
-        KeyKind::Bytes,
-        &HASH,
-        &PLACES,
-        &LISTS,
-        Further::Nothing,
-    ),
-    (
-        JobKind::StringMatch,
-        KeyKind::Numbers,
-        &OWN,
-        &COUNTS,
-        &NONE,
-        Further::Patterns,
-    ),
-    (
-        JobKind::Histogram,
-        KeyKind::Numbers,
-        &OWN,
-        &COUNTS,
-        &NONE,
-        Further::Nothing,
-    ),
-    (
-        JobKind::LinearRegression,
-        KeyKind::Numbers,
-        &OWN,
-        &SUM,
-        &NONE,
-        Further::Nothing,
-    ),
-    (
-        JobKind::MatrixProduct,
-        KeyKind::Numbers,
-        &OWN,
-        &SUM,
-        &NONE,
-        Further::Nothing,
-    ),
-    (
-        JobKind::MatrixProduct,
-        KeyKind::Numbers,
-        &COMMON,
-        &ONCE,
-        &NONE,
-        Further::Nothing,
-    ),
-    (
-        JobKind::KMeans,
-        KeyKind::Numbers,
-        &OWN,
-        &VEC_SUM,
-        &NONE,
-        Further::Means,
-    ),
-    (
-        JobKind::Pca,
-        KeyKind::Numbers,
-        &OWN,
-        &SUM,
-        &NONE,
-        Further::Nothing,
-    ),
+    (WordCount, Bytes, &HASH, &COUNTS, &NONE, Nothing),
+    (FoldLines, Bytes, &HASH, &PLAIN, &EACH, Keys),
+    (FoldLines, Numbers, &OWN, &PLAIN, &EACH, Keys),
+    (FoldLines, Numbers, &COMMON, &ONCE, &NONE, Keys),
+    (InvertedIndex, Bytes, &HASH, &PLACES, &LISTS, Nothing),
+    (StringMatch, Numbers, &OWN, &COUNTS, &NONE, Patterns),
+    (Histogram, Numbers, &OWN, &COUNTS, &NONE, Nothing),
+    (LinearRegression, Numbers, &OWN, &SUM, &NONE, Nothing),
+    (MatrixProduct, Numbers, &OWN, &SUM, &NONE, Nothing),
+    (MatrixProduct, Numbers, &COMMON, &ONCE, &NONE, Nothing),
+    (KMeans, Numbers, &OWN, &VEC_SUM, &NONE, Means),
+    (Pca, Numbers, &OWN, &SUM, &NONE, Nothing),
 ];
 
 /// Whether a container may have this capacity.
@@ -188,7 +102,7 @@ fn has_parts(
     let (_, _, containers, combiners, reducers, _) = *row;
     containers.contains(&container)
         && match reducer {
-            Some(reducer) => combiner == CombinerKind::Buffer && reducers.contains(&reducer),
+            Some(reducer) => combiner == Buffer && reducers.contains(&reducer),
             None => combiners.contains(&combiner),
         }
 }

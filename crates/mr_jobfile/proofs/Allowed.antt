@@ -1,13 +1,12 @@
 -- A table with no bad value means a job within its bounds.
-use Rattle.std.proofs.Common.{◌≡◌, ◌∙◌, ap, sym, ℕ, pos, Bool, true, false, not, ◌&&◌, List, [], ◌∷◌, find, cond, Option, Some, None, refl, option_map, option_and_then, rules}
+use Rattle.std.proofs.Common.{◌≡◌, ◌∙◌, ap, ℕ, pos, Bool, true, false, not, ◌&&◌, List, [], find, cond, Option, Some, None, refl, option_map, option_and_then}
 use Rattle.std.specs.Prelude.{IfSome, unwrap_or, slice_get}
-use Rattle.std.specs.List.{list_any, list_all}
+use Rattle.std.specs.List.{list_all}
 use Rattle.std.proofs.lemmas.Bool.{and_parts}
 use denote.Enum.Bare.{same_true}
 use Rattle.toml.specs.Data.{Data, Members, get_member}
 use Rattle.mr_capacity.specs.declared.kinds.JobKind.{JobKind}
 use Rattle.mr_capacity.specs.declared.kinds.ContainerKind.{ContainerKind}
-use Rattle.mr_capacity.specs.declared.kinds.KeyKind.{KeyKind}
 use Rattle.mr_capacity.specs.declared.kinds.CombinerKind.{CombinerKind}
 use Rattle.mr_capacity.specs.declared.tables.Further.TheVariants as further
 use Rattle.mr_capacity.specs.contracts.kinds.JobKind.{the_type}
@@ -21,7 +20,7 @@ use Rattle.mr_jobfile.specs.declared.defaults.TheConstants.{DEFAULT_PARTITIONS, 
 use Rattle.mr_jobfile.specs.Ranges.{is_within, is_count_of, are_patterns, are_patterns_of, has_means, has_patterns, is_text_job}
 use Rattle.mr_jobfile.specs.Forms.{is_there, is_bad, first_bad, number_in, texts_in}
 use Rattle.mr_jobfile.specs.Keys.{key_text}
-use Rattle.mr_jobfile.specs.Values.{said, values_of, is_named, has_further, fits_row, keys_in, default_chunk, job_with, job_by, described}
+use Rattle.mr_jobfile.specs.Values.{said, values_of, is_there_exactly, has_further, fits_row, keys_in, default_chunk, job_with, job_by, described}
 use Rattle.mr_jobfile.specs.Allowed.{IsAllowed}
 use Rattle.mr_jobfile.proofs.Found.{not_found, found_passes, found_among, some_more, some_map, some_both}
 
@@ -67,13 +66,13 @@ default_good : {A : Type 0} (test : A → Bool) (value : Option A) (other : A) �
 default_good test None other good fallback = fallback
 default_good test (Some x) other good fallback = good
 
-count_good : (named : Bool) (high : ℕ) (value : Option ℕ) → is_named named value ≡ true → IfSome value (λ n. is_within 1 high n ≡ true) → is_count_of named high (unwrap_or value 0) ≡ true
+count_good : (named : Bool) (high : ℕ) (value : Option ℕ) → is_there_exactly named value ≡ true → IfSome value (λ n. is_within 1 high n ≡ true) → is_count_of named high (unwrap_or value 0) ≡ true
 count_good true high None named good = cc
 count_good true high (Some n) named good = good
 count_good false high None named good = refl
 count_good false high (Some n) named good = cc
 
-patterns_good : (named : Bool) (value : Option (List (List ℕ))) → is_named named value ≡ true → IfSome value (λ ps. are_patterns ps ≡ true) → are_patterns_of named (unwrap_or value []) ≡ true
+patterns_good : (named : Bool) (value : Option (List (List ℕ))) → is_there_exactly named value ≡ true → IfSome value (λ ps. are_patterns ps ≡ true) → are_patterns_of named (unwrap_or value []) ≡ true
 patterns_good true None named good = cc
 patterns_good true (Some ps) named good = good
 patterns_good false None named good = refl
@@ -97,9 +96,9 @@ flags_same false false e = refl
 
 -- the values have the further keys of the job
 record HasFurther (v : Values) (job : JobKind) : Type 0 where
-  clusters : is_named (has_means job) v.clusters ≡ true
-  rounds : is_named (has_means job) v.rounds ≡ true
-  patterns : is_named (has_patterns job) v.patterns ≡ true
+  clusters : is_there_exactly (has_means job) v.clusters ≡ true
+  rounds : is_there_exactly (has_means job) v.rounds ≡ true
+  patterns : is_there_exactly (has_patterns job) v.patterns ≡ true
 
 further_of : (v : Values) (job : JobKind) (container : ContainerKind) (combiner : CombinerKind) (row : Row) → fits_row v job container combiner row ≡ true → agrees row ≡ true → HasFurther v job
 further_of v job container combiner row fits agree =
@@ -110,9 +109,9 @@ further_of v job container combiner row fits agree =
     let has_means_too : same_further row.further further.Means ≡ has_means job = flags_same (has_means row.job) _ means ∙ ap has_means same in
     let has_patterns_too : same_further row.further further.Patterns ≡ has_patterns job = flags_same (has_patterns row.job) _ patterns ∙ ap has_patterns same in
     let (before_keys, _) = and_parts _ _ others in
-    let (before_rounds, rounds) = and_parts _ (is_named (same_further row.further further.Means) v.rounds) before_keys in
-    let (before_clusters, clusters) = and_parts _ (is_named (same_further row.further further.Means) v.clusters) before_rounds in
-    let (_, listed) = and_parts _ (is_named (same_further row.further further.Patterns) v.patterns) before_clusters in
+    let (before_rounds, rounds) = and_parts _ (is_there_exactly (same_further row.further further.Means) v.rounds) before_keys in
+    let (before_clusters, clusters) = and_parts _ (is_there_exactly (same_further row.further further.Means) v.clusters) before_rounds in
+    let (_, listed) = and_parts _ (is_there_exactly (same_further row.further further.Patterns) v.patterns) before_clusters in
     record {
       clusters = rw has_means_too at clusters;
       rounds = rw has_means_too at rounds;
@@ -135,21 +134,21 @@ allowed_with v good job container capacity combiner capacity_good =
     let fits : Row → Bool = fits_row v job container combiner in
     let passing : IfSome (find fits rows) (λ row. (fits row ≡ true) × (agrees row ≡ true)) = found_passes fits agrees rows all_agree in
     let among : IfSome (find fits rows) (λ row. is_pairing job container row.keys combiner v.reducer ≡ true) =
-        found_among fits (λ found row. is_row row job container found.keys combiner v.reducer) rows (in_pairings v job container combiner) in
+    found_among fits (λ found row. is_row row job container found.keys combiner v.reducer) rows (in_pairings v job container combiner) in
     some_map (job_with v job container capacity combiner) IsAllowed (keys_in rows v job container combiner)
     (some_map (λ row. row.keys) (λ keys. IsAllowed (job_with v job container capacity combiner keys)) (find fits rows)
     (some_more _ (λ row. IsAllowed (job_with v job container capacity combiner row.keys)) (find fits rows) (some_both _ _ (find fits rows) passing among)
     (λ row known.
-      let more = further_of v job container combiner row known.0.0 known.0.1 in
-      record {
-        capacity = capacity_good;
-        pairing = known.1;
-        partitions = default_good (is_within 1 64) v.partitions DEFAULT_PARTITIONS good.partitions refl;
-        chunk = default_good (is_within 1 16777216) v.chunk (default_chunk job) good.chunk (default_chunk_good job);
-        clusters = count_good (has_means job) 64 v.clusters more.clusters good.clusters;
-        rounds = count_good (has_means job) 1000 v.rounds more.rounds good.rounds;
-        patterns = patterns_good (has_patterns job) v.patterns more.patterns good.patterns;
-      })))
+    let more = further_of v job container combiner row known.0.0 known.0.1 in
+    record {
+      capacity = capacity_good;
+      pairing = known.1;
+      partitions = default_good (is_within 1 64) v.partitions DEFAULT_PARTITIONS good.partitions refl;
+      chunk = default_good (is_within 1 16777216) v.chunk (default_chunk job) good.chunk (default_chunk_good job);
+      clusters = count_good (has_means job) 64 v.clusters more.clusters good.clusters;
+      rounds = count_good (has_means job) 1000 v.rounds more.rounds good.rounds;
+      patterns = patterns_good (has_patterns job) v.patterns more.patterns good.patterns;
+    })))
 
 by_parts : (v : Values) → AreGood v → (job : Option JobKind) (container : Option ContainerKind) (capacity : Option ℕ) (combiner : Option CombinerKind)
     → IfSome capacity (λ n. is_capacity (pos n) ≡ true) → IfSome (job_by v job container capacity combiner) IsAllowed

@@ -1,5 +1,5 @@
 -- What a file means, by its length and its document.
-use Rattle.std.proofs.Common.{◌≡◌, ℕ, ◌<◌, ◌≤◌, List, length, nat_lt, true, false, Option, Some, None, Err, arith}
+use Rattle.std.proofs.Common.{◌≡◌, ℕ, ◌<◌, ◌≤◌, List, length, nat_lt, true, false, Some, None, Err, arith}
 use Rattle.std.proofs.lemmas.Bool.Decides.{nat_tests}
 use Rattle.toml.specs.Data.{Members}
 use Rattle.mr_jobfile.specs.declared.fault.JobFault.TheVariants as fault

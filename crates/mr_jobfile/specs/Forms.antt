@@ -1,5 +1,5 @@
 -- Which values a key may have.
-use Rattle.std.specs.Prelude.{ℕ, pos, ◌^◌, Bool, false, not, ◌==◌, nat_lt, is_some, List, [], ◌∷◌, find, if◌then◌else◌, Option, Some, None, option_and_then, option_map}
+use Rattle.std.specs.Prelude.{ℕ, pos, ◌^◌, Bool, false, not, nat_lt, is_some, List, [], ◌∷◌, find, if◌then◌else◌, Option, Some, None, option_and_then, option_map}
 use Rattle.std.specs.Option.{option_map_or}
 use Rattle.std.specs.List.{list_any}
 use Rattle.toml.specs.Data.{Data, string, integer, Items, no_items, item, Members, get_member, as_str, as_array}

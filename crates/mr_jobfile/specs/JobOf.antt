@@ -7,7 +7,7 @@ use Rattle.toml.specs.Parse.{parse_document}
 use Rattle.mr_jobfile.specs.declared.fault.JobFault.{JobFault}
 use Rattle.mr_jobfile.specs.declared.fault.JobFault.TheVariants as fault
 use Rattle.mr_jobfile.specs.declared.read.TheConstants.{JOB_LIMIT}
-use Rattle.mr_jobfile.specs.Keys.{first_unknown, first_missing}
+use Rattle.mr_jobfile.specs.Keys.{least_unknown, first_missing}
 use Rattle.mr_jobfile.specs.Forms.{first_bad}
 use Rattle.mr_jobfile.specs.Values.{SeenJob, values_of, described}
 
@@ -18,7 +18,7 @@ document_of bytes = if is_utf8 bytes then parse_document bytes else None
 -- the job of a table, or the first of its faults
 abbrev pub judged : Members → Result SeenJob JobFault
 judged ms =
-    option_map_or (λ name. Err (fault.Unknown name)) (first_unknown ms)
+    option_map_or (λ name. Err (fault.Unknown name)) (least_unknown ms)
     (option_map_or (λ k. Err (fault.Missing k)) (first_missing ms)
     (option_map_or (λ k. Err (fault.BadValue k)) (first_bad ms)
     (option_map_or Ok (described (values_of ms)) (Err fault.Pairing))))

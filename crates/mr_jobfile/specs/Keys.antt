@@ -1,8 +1,11 @@
 -- The keys of a job file, and which of them a table lacks.
-use Rattle.std.specs.Prelude.{ℕ, Bool, not, is_some, List, find, if◌then◌else◌, codes, Option, Some, None}
+use Rattle.std.specs.Prelude.{ℕ, Bool, not, is_some, List, [], ◌∷◌, filter, find, codes, Option}
 use Rattle.std.specs.List.{list_any}
+use Rattle.std.specs.Cmp.Lexicographic.{slice_cmp}
+use Rattle.std.specs.Ordering.{nat_cmp}
 use Rattle.std.specs.Str.{bytes_eq}
 use Rattle.toml.specs.Data.{Members, no_members, member, get_member}
+use Rattle.mr_defs.specs.Keyed.{least}
 use Rattle.mr_jobfile.specs.declared.key.JobKey.{JobKey}
 use Rattle.mr_jobfile.specs.declared.key.JobKey.TheVariants as key
 use Rattle.mr_jobfile.specs.declared.key.TheConstants.{ALL_KEYS, NEEDED_KEYS}
@@ -27,10 +30,16 @@ key_text key.Patterns = codes "patterns"
 abbrev pub is_known : List ℕ → Bool
 is_known name = list_any (λ k. bytes_eq name (key_text k)) ALL_KEYS
 
--- the least key in byte order that no job file has: the members ascend by key, so it is the first
-abbrev pub first_unknown : Members → Option (List ℕ)
-first_unknown no_members = None
-first_unknown (member name d ms) = if is_known name then first_unknown ms else Some name
+abbrev pub is_unknown : List ℕ → Bool
+is_unknown name = not (is_known name)
+
+abbrev pub names_in : Members → List (List ℕ)
+names_in no_members = []
+names_in (member name d ms) = name ∷ names_in ms
+
+-- the least key in byte order that no job file has
+abbrev pub least_unknown : Members → Option (List ℕ)
+least_unknown ms = least (slice_cmp nat_cmp) (filter is_unknown (names_in ms))
 
 -- the first needed key that isn't there
 abbrev pub first_missing : Members → Option JobKey

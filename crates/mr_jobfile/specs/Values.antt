@@ -8,7 +8,6 @@ use Rattle.mr_capacity.specs.declared.kinds.KeyKind.{KeyKind}
 use Rattle.mr_capacity.specs.declared.kinds.CombinerKind.{CombinerKind}
 use Rattle.mr_capacity.specs.declared.kinds.ReducerKind.{ReducerKind}
 use Rattle.mr_capacity.specs.declared.kinds.QueueKind.{QueueKind}
-use Rattle.mr_capacity.specs.declared.tables.Further.{Further}
 use Rattle.mr_capacity.specs.declared.tables.Further.TheVariants as further
 use Rattle.mr_capacity.specs.Names.{job_names, container_names, key_names, combiner_names, reducer_names, queue_names}
 use Rattle.mr_capacity.specs.Same.{same_keys, same_further}
@@ -19,7 +18,7 @@ use Rattle.mr_jobfile.specs.declared.values.Values.{Values}
 use Rattle.mr_jobfile.specs.declared.defaults.TheConstants.{DEFAULT_QUEUE, DEFAULT_PARTITIONS, DEFAULT_TEXT_CHUNK, DEFAULT_CHUNK}
 use Rattle.mr_jobfile.specs.Keys.{key_text}
 use Rattle.mr_jobfile.specs.Ranges.{is_text_job}
-use Rattle.mr_jobfile.specs.Forms.{is_there, number_in, kind_in, texts_in}
+use Rattle.mr_jobfile.specs.Forms.{number_in, kind_in, texts_in}
 
 -- what the table says of a key, by a reading of its value
 abbrev pub said : {A : Type 0} → (Data → Option A) → JobKey → Members → Option A
@@ -41,18 +40,18 @@ values_of ms = record {
   patterns = said texts_in key.Patterns ms;
 }
 
--- the key is there exactly where the row names it
-abbrev pub is_named : {A : Type 0} → Bool → Option A → Bool
-is_named true value = is_some value
-is_named false value = is_none value
+-- the value is there exactly where it is named
+abbrev pub is_there_exactly : {A : Type 0} → Bool → Option A → Bool
+is_there_exactly true value = is_some value
+is_there_exactly false value = is_none value
 
 -- of the further keys exactly those are there that the row names, and keys is the row's key kind
 abbrev pub has_further : Row → Values → Bool
 has_further row v =
-    is_named (same_further row.further further.Keys) v.keys
-    && is_named (same_further row.further further.Patterns) v.patterns
-    && is_named (same_further row.further further.Means) v.clusters
-    && is_named (same_further row.further further.Means) v.rounds
+    is_there_exactly (same_further row.further further.Keys) v.keys
+    && is_there_exactly (same_further row.further further.Patterns) v.patterns
+    && is_there_exactly (same_further row.further further.Means) v.clusters
+    && is_there_exactly (same_further row.further further.Means) v.rounds
     && option_map_or (same_keys row.keys) v.keys true
 
 -- the row has this job and container, this combiner with the reducer that the values have, and their further keys

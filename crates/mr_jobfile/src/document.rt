@@ -2,7 +2,7 @@ ghost use Rattle.std.specs.Prelude.{◌≡◌, Some, None, IfOk, is_some, not, o
 ghost use Rattle.toml.specs.Data.{get_member};
 ghost use Rattle.toml.specs.View.{table_view};
 ghost use Rattle.mr_jobfile.specs.JobOf.{document_of};
-ghost use Rattle.mr_jobfile.specs.Keys.{first_missing, first_unknown, is_known, key_text};
+ghost use Rattle.mr_jobfile.specs.Keys.{first_missing, least_unknown, is_known, key_text};
 
 use crate::fault::JobFault;
 use crate::key::{ALL_KEYS, JobKey, NEEDED_KEYS};
@@ -37,8 +37,8 @@ fn is_known(name: &str) -> bool
 }
 
 /// The least key in byte order that no job file has.
-pub fn first_unknown<'t>(table: &'t Table) -> Option<&'t str>
-    ensures { option_map (λ s. s.now) result ≡ first_unknown (table_view table.now) }
+pub fn least_unknown<'t>(table: &'t Table) -> Option<&'t str>
+    ensures { option_map (λ s. s.now) result ≡ least_unknown (table_view table.now) }
 {
     for name in table.keys() {
         if !is_known(name.as_str()) {
@@ -58,5 +58,8 @@ fn is_missing(table: &Table, key: JobKey) -> bool
 pub fn first_missing(table: &Table) -> Option<JobKey>
     ensures { result ≡ first_missing (table_view table.now) }
 {
-    NEEDED_KEYS.iter().copied().find(|key| is_missing(table, *key))
+    NEEDED_KEYS
+        .iter()
+        .copied()
+        .find(|key| is_missing(table, *key))
 }

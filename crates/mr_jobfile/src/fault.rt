@@ -26,14 +26,23 @@ pub enum JobFault {
 fn shown_byte(byte: u8) -> u8
     ensures { result ≡ shown_byte byte }
 {
-    if 33 <= byte && byte <= 126 { byte } else { b'?' }
+    if 33 <= byte && byte <= 126 {
+        byte
+    } else {
+        b'?'
+    }
 }
 
 /// The first 64 bytes of a key, with `?` in place of each byte outside 33 to 126.
 fn shown_text(alloc: Global, key: &[u8]) -> Result<Vec<u8>, Memory>
     ensures { IfOk result (λ v. v.items ≡ shown_text key.now) }
 {
-    Ok(key.iter().take(64).map(|byte| shown_byte(*byte)).collect(alloc)?)
+    Ok(
+        key.iter()
+            .take(64)
+            .map(|byte| shown_byte(*byte))
+            .collect(alloc)?,
+    )
 }
 
 /// The line for standard error that says why, with its byte 10 at the end.

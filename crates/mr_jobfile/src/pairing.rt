@@ -1,7 +1,7 @@
 ghost use Rattle.std.specs.Prelude.{◌≡◌, IfSome, map, option_map};
-ghost use Rattle.mr_capacity.specs.Tables.{rows, seen_row};
+ghost use Rattle.mr_capacity.specs.Tables.{seen_row};
 ghost use Rattle.mr_jobfile.specs.Ranges.{is_text_job};
-ghost use Rattle.mr_jobfile.specs.Values.{default_chunk, described, fits_row, has_further, is_named, keys_in};
+ghost use Rattle.mr_jobfile.specs.Values.{default_chunk, described, fits_row, has_further, is_there_exactly, keys_in};
 ghost use Rattle.mr_jobfile.specs.Allowed.{IsAllowed};
 ghost use Rattle.mr_jobfile.specs.Seen.{seen};
 
@@ -9,11 +9,13 @@ use crate::defaults::{DEFAULT_CHUNK, DEFAULT_PARTITIONS, DEFAULT_QUEUE, DEFAULT_
 use crate::job::Job;
 use crate::values::Values;
 use mr_base::Patterns;
-use mr_capacity::{CombinerKind, ContainerKind, Further, JobKind, KeyKind, PAIRINGS, Pairing, is_row};
+use mr_capacity::{
+    CombinerKind, ContainerKind, Further, JobKind, KeyKind, PAIRINGS, Pairing, is_row,
+};
 use std::alloc::Global;
 
-fn is_named<T>(named: bool, value: &Option<T>) -> bool
-    ensures { result ≡ is_named named value.now }
+fn is_there_exactly<T>(named: bool, value: &Option<T>) -> bool
+    ensures { result ≡ is_there_exactly named value.now }
 {
     value.is_some() == named
 }
@@ -21,42 +23,52 @@ fn is_named<T>(named: bool, value: &Option<T>) -> bool
 fn has_further(row: &Pairing, values: &Values) -> bool
     ensures { result ≡ has_further (seen_row row.now) values.now }
 {
-    is_named(row.5 == Further::Keys, &values.keys)
-        && is_named(row.5 == Further::Patterns, &values.patterns)
-        && is_named(row.5 == Further::Means, &values.clusters)
-        && is_named(row.5 == Further::Means, &values.rounds)
-        && values.keys.is_none_or(|keys| row.1 == keys)
+    let (_, row_keys, _, _, _, further) = *row;
+    is_there_exactly(further == Further::Keys, &values.keys)
+        && is_there_exactly(further == Further::Patterns, &values.patterns)
+        && is_there_exactly(further == Further::Means, &values.clusters)
+        && is_there_exactly(further == Further::Means, &values.rounds)
+        && values.keys.is_none_or(|keys| row_keys == keys)
 }
 
-fn fits_row(row: &Pairing, values: &Values, job: JobKind, container: ContainerKind, combiner: CombinerKind) -> bool
+fn fits_row(
+    row: &Pairing,
+    values: &Values,
+    job: JobKind,
+    container: ContainerKind,
+    combiner: CombinerKind,
+) -> bool
     ensures { result ≡ fits_row values.now job container combiner (seen_row row.now) }
 {
-    is_row(row, job, container, row.1, combiner, values.reducer) && has_further(row, values)
+    let (_, row_keys, ..) = *row;
+    is_row(row, job, container, row_keys, combiner, values.reducer) && has_further(row, values)
 }
 
-fn keys_in(rows: &[Pairing], values: &Values, job: JobKind, container: ContainerKind, combiner: CombinerKind) -> Option<KeyKind>
+/// The key kind of the first row that the values fit.
+fn keys_in(
+    rows: &[Pairing],
+    values: &Values,
+    job: JobKind,
+    container: ContainerKind,
+    combiner: CombinerKind,
+) -> Option<KeyKind>
     ensures { result ≡ keys_in (map seen_row rows.now) values.now job container combiner }
 {
     for row in rows {
         if fits_row(row, values, job, container, combiner) {
-            return Some(row.1);
+            let (_, keys, ..) = *row;
+            return Some(keys);
         }
     }
     None
-}
-
-/// The key kind of the first row that the values fit.
-fn keys_of(values: &Values, job: JobKind, container: ContainerKind, combiner: CombinerKind) -> Option<KeyKind>
-    ensures { result ≡ keys_in rows values.now job container combiner }
-{
-    keys_in(&PAIRINGS, values, job, container, combiner)
 }
 
 fn default_chunk(job: JobKind) -> u32
     ensures { result ≡ default_chunk job }
 {
     match job {
-        JobKind::WordCount | JobKind::FoldLines | JobKind::InvertedIndex | JobKind::StringMatch => DEFAULT_TEXT_CHUNK,
+        JobKind::WordCount | JobKind::FoldLines | JobKind::InvertedIndex | JobKind::StringMatch =>
+            DEFAULT_TEXT_CHUNK,
         _ => DEFAULT_CHUNK,
     }
 }
@@ -70,7 +82,7 @@ pub fn described(alloc: Global, values: Values) -> Option<Job>
     let container = values.container?;
     let capacity = values.capacity?;
     let combiner = values.combiner?;
-    let keys = keys_of(&values, job, container, combiner)?;
+    let keys = keys_in(&PAIRINGS, &values, job, container, combiner)?;
     Some(Job {
         job,
         container,

@@ -3,7 +3,7 @@ ghost use Rattle.toml.specs.View.{table_view};
 ghost use Rattle.mr_jobfile.specs.JobOf.{job_of, judged};
 ghost use Rattle.mr_jobfile.specs.Seen.{seen};
 
-use crate::document::{document, first_missing, first_unknown};
+use crate::document::{document, first_missing, least_unknown};
 use crate::fault::JobFault;
 use crate::forms::first_bad;
 use crate::job::Job;
@@ -31,7 +31,7 @@ fn judged(alloc: Global, table: &Table) -> Result<Job, Stop<JobFault>>
     ensures job { IfOk result (λ j. judged (table_view table.now) ≡ Ok (seen j)) }
     ensures fault { (f : JobFault) → result ≡ Err (Stop.Refused f) → judged (table_view table.now) ≡ Err f }
 {
-    if let Some(name) = first_unknown(table) {
+    if let Some(name) = least_unknown(table) {
         return Err(unknown(alloc, name));
     }
     if let Some(key) = first_missing(table) {

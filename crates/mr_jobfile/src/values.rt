@@ -8,8 +8,8 @@ use crate::forms::{kind, number};
 use crate::key::JobKey;
 use mr_base::{Memory, Patterns};
 use mr_capacity::{
-    COMBINER_NAMES, CONTAINER_NAMES, CombinerKind, ContainerKind, JOB_NAMES, JobKind, KEY_NAMES, KeyKind, QUEUE_NAMES, QueueKind,
-    REDUCER_NAMES, ReducerKind,
+    COMBINER_NAMES, CONTAINER_NAMES, CombinerKind, ContainerKind, JOB_NAMES, JobKind, KEY_NAMES,
+    KeyKind, QUEUE_NAMES, QueueKind, REDUCER_NAMES, ReducerKind,
 };
 use std::alloc::Global;
 use toml::{Table, Value};
