@@ -11,8 +11,9 @@ use crate::scalar::Scalar;
 use crate::single::Single;
 use mr_base::Memory;
 use std::alloc::Global;
+use std::marker::PhantomData;
 
-/// An operation in which neither order nor grouping counts. Each is a combiner that is never over.
+/// An operation in which neither order nor grouping counts.
 pub trait Operation {
     /// What a cell keeps.
     type Scalar: Scalar;
@@ -31,7 +32,12 @@ pub trait Operation {
     ghost joins: { Joins Self.Scalar.scalar_of Self.Scalar.number_of joined folded };
 }
 
-impl<O: Operation> Combiner for O {
+/// Combines by an operation, and is never over.
+pub struct Joined<O> {
+    operation: PhantomData<O>,
+}
+
+impl<O: Operation> Combiner for Joined<O> {
     type Value = i64;
 
     type Cell = O::Scalar;
@@ -71,16 +77,16 @@ impl<O: Operation> Combiner for O {
     }
 }
 
-impl<O: Operation> FixedCombiner for O {
+impl<O: Operation> FixedCombiner for Joined<O> {
     ghost is_fixed = { refl };
 }
 
-impl<O: Operation> Single for O {
+impl<O: Operation> Single for Joined<O> {
     ghost number_of = { O.Scalar.number_of };
 
-    ghost folded = { O.Operation.folded };
+    ghost folded = { O.folded };
 
-    ghost is_fold = { joining_is_fold O.Scalar.scalar_of O.Scalar.number_of O.joined O.laws O.Operation.folded O.joins };
+    ghost is_fold = { joining_is_fold O.Scalar.scalar_of O.Scalar.number_of O.joined O.laws O.folded O.joins };
 
     fn number(cell: &O::Scalar) -> i128 {
         cell.number() as i128
@@ -88,9 +94,12 @@ impl<O: Operation> Single for O {
 }
 
 /// Keeps the least value.
-pub struct Min;
+pub type Min = Joined<Least>;
 
-impl Operation for Min {
+/// The lesser of two values.
+pub struct Least;
+
+impl Operation for Least {
     type Scalar = i64;
 
     ghost joined = { int_min };
@@ -107,9 +116,12 @@ impl Operation for Min {
 }
 
 /// Keeps the greatest value.
-pub struct Max;
+pub type Max = Joined<Greatest>;
 
-impl Operation for Max {
+/// The greater of two values.
+pub struct Greatest;
+
+impl Operation for Greatest {
     type Scalar = i64;
 
     ghost joined = { int_max };
@@ -126,9 +138,12 @@ impl Operation for Max {
 }
 
 /// Keeps that there is a value, and answers 1.
-pub struct One;
+pub type One = Joined<Presence>;
 
-impl Operation for One {
+/// That there is a value.
+pub struct Presence;
+
+impl Operation for Presence {
     type Scalar = ();
 
     ghost joined = { both_there };
@@ -143,9 +158,12 @@ impl Operation for One {
 }
 
 /// Keeps the bits in two's complement that all values have.
-pub struct And;
+pub type And = Joined<CommonBits>;
 
-impl Operation for And {
+/// The bits that both have.
+pub struct CommonBits;
+
+impl Operation for CommonBits {
     type Scalar = u64;
 
     ghost joined = { bit_and };
@@ -162,9 +180,12 @@ impl Operation for And {
 }
 
 /// Keeps the bits in two's complement that some value has.
-pub struct Or;
+pub type Or = Joined<AnyBits>;
 
-impl Operation for Or {
+/// The bits that one has, or both.
+pub struct AnyBits;
+
+impl Operation for AnyBits {
     type Scalar = u64;
 
     ghost joined = { bit_or };
@@ -181,9 +202,12 @@ impl Operation for Or {
 }
 
 /// Keeps the bits in two's complement that an odd number of values has.
-pub struct Xor;
+pub type Xor = Joined<OddBits>;
 
-impl Operation for Xor {
+/// The bits that one of both has.
+pub struct OddBits;
+
+impl Operation for OddBits {
     type Scalar = u64;
 
     ghost joined = { bit_xor };
