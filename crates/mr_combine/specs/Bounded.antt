@@ -75,6 +75,11 @@ module _ {A : Type 0} (fits : A → Bool) (op : A → A → A) (laws : IsCommuta
     within_outcome a true = refl
     within_outcome a false = refl
 
-    -- the fold is what the total of the values answers where it is within the bound
-    pub within_is_fold : IsFoldOf (λ v. within fits (g v)) (joined_within fits op) is_none answer (λ vs. if fits (total vs) then Some (answer (Some (total vs))) else None)
-    within_is_fold = total_is_fold op g (joined_within fits op) (λ v. within fits (g v)) (within fits) (λ v. refl) within_both total sums is_none answer (λ vs. if fits (total vs) then Some (answer (Some (total vs))) else None) (λ vs. within_outcome (total vs) (fits (total vs)))
+    -- what the total of the values answers, where it is within the bound
+    abbrev folded_within : List V → Option Answer
+    folded_within vs = if fits (total vs) then Some (answer (Some (total vs))) else None
+
+    pub within_is_fold : IsFoldOf (λ v. within fits (g v)) (joined_within fits op) is_none answer folded_within
+    within_is_fold =
+        total_is_fold op g (joined_within fits op) (λ v. within fits (g v)) (within fits) (λ v. refl) within_both total sums is_none answer folded_within
+        (λ vs. within_outcome (total vs) (fits (total vs)))

@@ -7,3 +7,4 @@ pub mod Ordered
 pub mod Paired
 pub mod Points
 pub mod Sums
+pub mod Zipped

@@ -30,7 +30,8 @@ module _ {A : Type 0} (R : A → A → Ordering) (o : IsTotalOrder R) (one : IsA
   put_permutes : (l : List A) (v : A) → IsPermutation (v ∷ l) (put_in_order R l v)
   put_permutes [] v = IsPermutation-refl (v ∷ [])
   put_permutes (x ∷ xs) v = elim (is_gt (R v x)) as (λ b. IsPermutation (v ∷ x ∷ xs) (if b then x ∷ put_in_order R xs v else v ∷ x ∷ xs)) [
-    | true ↦ IsPermutation-trans (v ∷ x ∷ xs) (x ∷ v ∷ xs) (x ∷ put_in_order R xs v) (IsPermutation-insert (x ∷ xs) 1 v) (IsPermutation-cons x (v ∷ xs) (put_in_order R xs v) (put_permutes xs v))
+    | true ↦ IsPermutation-trans (v ∷ x ∷ xs) (x ∷ v ∷ xs) (x ∷ put_in_order R xs v)
+        (IsPermutation-insert (x ∷ xs) 1 v) (IsPermutation-cons x (v ∷ xs) (put_in_order R xs v) (put_permutes xs v))
     | false ↦ IsPermutation-refl (v ∷ x ∷ xs)
   ]
 
@@ -70,8 +71,10 @@ both_in_order xs ys = left_in_order xs (in_order ys) ∙ right_in_order xs ys
 values_total : IsTotal {V = ℤ} {A = List ℤ} ◌++◌ (λ v. v ∷ []) (λ vs. vs)
 values_total = record { one = λ v. refl; more = λ v vs. refl }
 
-buffer_is_fold : (answer : List ℤ → Answer) (folded : List ℤ → Option Answer) → ((vs : List ℤ) → folded vs ≡ Some (answer (in_order vs))) → IsFoldOf buffer_unit buffer_merged never answer folded
-buffer_is_fold answer folded is = total_is_fold ◌++◌ buffer_unit buffer_merged buffer_unit in_order (λ v. refl) both_in_order (λ vs. vs) values_total never answer folded is
+buffer_is_fold : (answer : List ℤ → Answer) (folded : List ℤ → Option Answer)
+    → ((vs : List ℤ) → folded vs ≡ Some (answer (in_order vs))) → IsFoldOf buffer_unit buffer_merged never answer folded
+buffer_is_fold answer folded is =
+    total_is_fold ◌++◌ buffer_unit buffer_merged buffer_unit in_order (λ v. refl) both_in_order (λ vs. vs) values_total never answer folded is
 
 abbrev pub list_answer : List ℤ → Answer
 list_answer vs = vs
@@ -83,10 +86,14 @@ abbrev pub distinct_answer : List ℤ → Answer
 distinct_answer vs = ascending int_cmp vs
 
 pub distinct_is_fold : IsFoldOf buffer_unit buffer_merged never distinct_answer distinct_folded
-distinct_is_fold = buffer_is_fold distinct_answer distinct_folded (λ vs. ap Some (sym (ascending-IsPermutation int_cmp int_cmp_total int_cmp-IsAntisymmetric vs (in_order vs) (permuted vs))))
+distinct_is_fold =
+    buffer_is_fold distinct_answer distinct_folded
+    (λ vs. ap Some (sym (ascending-IsPermutation int_cmp int_cmp_total int_cmp-IsAntisymmetric vs (in_order vs) (permuted vs))))
 
 abbrev pub median_answer : List ℤ → Answer
 median_answer vs = get_or vs ((length vs - 1) / 2) (pos 0) ∷ []
 
 pub median_is_fold : IsFoldOf buffer_unit buffer_merged never median_answer median_folded
-median_is_fold = buffer_is_fold median_answer median_folded (λ vs. ap (λ n. Some (get_or (in_order vs) ((n - 1) / 2) (pos 0) ∷ [])) (sym (length_permutation vs (in_order vs) (permuted vs))))
+median_is_fold =
+    buffer_is_fold median_answer median_folded
+    (λ vs. ap (λ n. Some (get_or (in_order vs) ((n - 1) / 2) (pos 0) ∷ [])) (sym (length_permutation vs (in_order vs) (permuted vs))))

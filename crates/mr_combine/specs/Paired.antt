@@ -3,6 +3,7 @@ use Rattle.std.specs.Prelude.{◌≡◌, Bool, true, false, ◌||◌, ℤ, List,
 use Rattle.std.proofs.Common.{refl, ap, subst, ◌∙◌}
 use Rattle.mr_defs.specs.Commutative.{IsCommutative}
 use Rattle.mr_defs.specs.Emission.{Answer}
+use Rattle.mr_defs.specs.Folded.{both_folded}
 use Rattle.mr_defs.specs.Stands.{cell_of}
 use Rattle.mr_combine.specs.Cells.{cell_read}
 use Rattle.mr_combine.specs.Fold.{outcome, IsFoldOf}
@@ -34,17 +35,20 @@ pub side_stays : {A B : Type 0} (f : A → A → A) (g : B → B → B) (o : A �
     → (x y : A × B) → either_over o u x ≡ true → either_over o u (side_by_side f g x y) ≡ true
 side_stays f g o u p q x y h = over_either (o x.0) (u x.1) (o (f x.0 y.0)) (u (g x.1 y.1)) (p x.0 y.0) (q x.1 y.1) h
 
-module _ {V A B : Type 0} (a : V → A) (b : V → B) (f : A → A → A) (g : B → B → B) where
-  abbrev both : List V → Option (A × B)
+module _ {A B : Type 0} (a : ℤ → A) (b : ℤ → B) (f : A → A → A) (g : B → B → B) where
+  abbrev both : List ℤ → Option (A × B)
   both vs = cell_of (λ v. (a v, b v)) (side_by_side f g) vs
 
-  first_cell : (vs : List V) → cell_of a f vs ≡ option_map (λ c. c.0) (both vs)
+  first_cell : (vs : List ℤ) → cell_of a f vs ≡ option_map (λ c. c.0) (both vs)
   first_cell vs = cell_read (side_by_side f g) (λ v. (a v, b v)) f a (λ c. c.0) (λ v. refl) (λ x y. refl) vs
 
-  second_cell : (vs : List V) → cell_of b g vs ≡ option_map (λ c. c.1) (both vs)
+  second_cell : (vs : List ℤ) → cell_of b g vs ≡ option_map (λ c. c.1) (both vs)
   second_cell vs = cell_read (side_by_side f g) (λ v. (a v, b v)) g b (λ c. c.1) (λ v. refl) (λ x y. refl) vs
 
   module _ (o : A → Bool) (u : B → Bool) (n : A → ℤ) (m : B → ℤ) where
+    abbrev both_outcome : A × B → Option Answer
+    both_outcome c = outcome (either_over o u) (λ c. n c.0 ∷ m c.1 ∷ []) c
+
     outcomes : (c : A × B) (s t : Bool)
         → option_and_then (λ l. option_map (λ r. l ++ r) (if t then None else Some (m c.1 ∷ []))) (if s then None else Some (n c.0 ∷ []))
         ≡ (if s || t then None else Some (n c.0 ∷ m c.1 ∷ []))
@@ -53,16 +57,16 @@ module _ {V A B : Type 0} (a : V → A) (b : V → B) (f : A → A → A) (g : B
     outcomes c false true = refl
     outcomes c false false = refl
 
-    module _ (folded : List V → Option Answer) (second : List V → Option Answer) where
-      answered : (vs : List V) (c : Option (A × B))
+    module _ (folded : List ℤ → Option Answer) (second : List ℤ → Option Answer) where
+      answered : (vs : List ℤ) (c : Option (A × B))
           → IfSome (option_map (λ c. c.0) c) (λ c. folded vs ≡ outcome o (λ c. n c ∷ []) c)
           → IfSome (option_map (λ c. c.1) c) (λ c. second vs ≡ outcome u (λ c. m c ∷ []) c)
-          → IfSome c (λ c. option_and_then (λ l. option_map (λ r. l ++ r) (second vs)) (folded vs) ≡ outcome (either_over o u) (λ c. n c.0 ∷ m c.1 ∷ []) c)
+          → IfSome c (λ c. both_folded folded second vs ≡ both_outcome c)
       answered vs None p q = tt
       answered vs (Some c) p q = (λ i. option_and_then (λ l. option_map (λ r. l ++ r) (q i)) (p i)) ∙ outcomes c (o c.0) (u c.1)
 
       pub both_is_fold : IsFoldOf a f o (λ c. n c ∷ []) folded → IsFoldOf b g u (λ c. m c ∷ []) second
-          → (vs : List V) → IfSome (both vs) (λ c. option_and_then (λ l. option_map (λ r. l ++ r) (second vs)) (folded vs) ≡ outcome (either_over o u) (λ c. n c.0 ∷ m c.1 ∷ []) c)
+          → IsFoldOf (λ v. (a v, b v)) (side_by_side f g) (either_over o u) (λ c. n c.0 ∷ m c.1 ∷ []) (both_folded folded second)
       both_is_fold p q vs = answered vs (both vs)
           (subst (λ c. IfSome c (λ c. folded vs ≡ outcome o (λ c. n c ∷ []) c)) (first_cell vs) (p vs))
           (subst (λ c. IfSome c (λ c. second vs ≡ outcome u (λ c. m c ∷ []) c)) (second_cell vs) (q vs))

@@ -1,5 +1,5 @@
 -- The number of points with the sum of each coordinate, where a shorter point ends in zeros.
-use Rattle.std.specs.Prelude.{◌≡◌, ℕ, ◌+◌, ◌<◌, ◌≤◌, max, zero, suc, Bool, true, false, not, nat_lt, ◌||◌, ◌&&◌, if◌then◌else◌, List, [], ◌∷◌, fold, length, map, get_or, ℤ, pos, nat_abs, nat_le, Option, Some, None}
+use Rattle.std.specs.Prelude.{◌≡◌, ℕ, ◌+◌, ◌<◌, ◌≤◌, max, Bool, true, false, not, nat_lt, ◌||◌, ◌&&◌, if◌then◌else◌, List, [], ◌∷◌, fold, length, map, get_or, ℤ, pos, nat_abs, nat_le, Option, Some, None}
 use Rattle.std.specs.Option.{is_none}
 use Rattle.std.specs.List.{list_any, list_all, range_with_len}
 use Rattle.std.proofs.Common.{refl, sym, ap, ◌∙◌, arith}
@@ -14,17 +14,12 @@ use Rattle.mr_combine.specs.Bounded.{within}
 use Rattle.mr_combine.specs.Cells.{IsTotal, total_is_fold}
 use Rattle.mr_combine.specs.Counts.{count_fits, count_merged, count_number, count_commutative, count_stays_over, counts_join, length_total}
 use Rattle.mr_combine.specs.Fold.{outcome, IsFoldOf}
+use Rattle.mr_combine.specs.Zipped.{zip_longest, zip_none, zip_commutative, zip_stays, zip_at, length-zip, zip_map}
 use Rattle.mr_combine.specs.Paired.{side_by_side, side_commutative, either_over, side_stays}
 use Rattle.mr_combine.specs.Sums.{Summed, summed, sum_fits, sum_unit, sum_merged, sum_number, sum_commutative, sum_stays_over, sums_join, sum_total}
 use Rattle.std.proofs.Math.IntN.{+ℤ_idl, +ℤ_idr}
 use Rattle.std.proofs.Math.ListN.{get_or-map}
 use borrow.Author.Tests.{ltb-true, ltb-false}
-
--- two lists place by place, where what one list has past the end of the other stays
-abbrev pub zip_longest : {A : Type 0} → (A → A → A) → List A → List A → List A
-zip_longest op [] ys = ys
-zip_longest op (x ∷ xs) [] = x ∷ xs
-zip_longest op (x ∷ xs) (y ∷ ys) = op x y ∷ zip_longest op xs ys
 
 -- a cell: the number of points, and of each coordinate the sum and the sum of the magnitudes; each is None where it passed the limit
 abbrev pub PointsSeen : Type 0
@@ -42,62 +37,13 @@ vecsum_over c = either_over is_none (list_any is_none) c
 abbrev pub vecsum_answer : PointsSeen → Answer
 vecsum_answer c = count_number c.0 ∷ map sum_number c.1
 
-module _ {A : Type 0} (op : A → A → A) where
-  pub zip_none : (xs : List A) → zip_longest op xs [] ≡ xs
-  zip_none [] = refl
-  zip_none (x ∷ xs) = refl
-
-  module _ (laws : IsCommutative op) where
-    zip_comm : (xs ys : List A) → zip_longest op xs ys ≡ zip_longest op ys xs
-    zip_comm [] ys = sym (zip_none ys)
-    zip_comm (x ∷ xs) [] = refl
-    zip_comm (x ∷ xs) (y ∷ ys) = λ i. laws.comm x y i ∷ zip_comm xs ys i
-
-    zip_assoc : (xs ys zs : List A) → zip_longest op (zip_longest op xs ys) zs ≡ zip_longest op xs (zip_longest op ys zs)
-    zip_assoc [] ys zs = refl
-    zip_assoc (x ∷ xs) [] zs = refl
-    zip_assoc (x ∷ xs) (y ∷ ys) [] = refl
-    zip_assoc (x ∷ xs) (y ∷ ys) (z ∷ zs) = λ i. laws.assoc x y z i ∷ zip_assoc xs ys zs i
-
-    zip_commutative : IsCommutative (zip_longest op)
-    zip_commutative = record { comm = zip_comm; assoc = zip_assoc }
-
-  -- of what is over at a place
-  zip_stays : (over : A → Bool) → ((a b : A) → over a ≡ true → over (op a b) ≡ true) → (xs ys : List A) → list_any over xs ≡ true → list_any over (zip_longest op xs ys) ≡ true
-  zip_stays over stays [] ys h = absurd (true≢false (sym h))
-  zip_stays over stays (x ∷ xs) [] h = h
-  zip_stays over stays (x ∷ xs) (y ∷ ys) h = by (over x) refl (over (op x y)) (stays x y) (zip_stays over stays xs ys) h
-    where
-      by : (a : Bool) → over x ≡ a → (b : Bool) → (over x ≡ true → b ≡ true) → (list_any over xs ≡ true → list_any over (zip_longest op xs ys) ≡ true)
-          → (a || list_any over xs) ≡ true → (b || list_any over (zip_longest op xs ys)) ≡ true
-      by true e b f g h = ap (λ t. t || list_any over (zip_longest op xs ys)) (f e)
-      by false e true f g h = refl
-      by false e false f g h = g h
-
-  -- at each place, where e is what a place past the end has
-  zip_at : (e : A) → ((a : A) → op a e ≡ a) → ((a : A) → op e a ≡ a) → (xs ys : List A) (j : ℕ) → get_or (zip_longest op xs ys) j e ≡ op (get_or xs j e) (get_or ys j e)
-  zip_at e right left [] ys j = sym (left (get_or ys j e))
-  zip_at e right left (x ∷ xs) [] j = sym (right (get_or (x ∷ xs) j e))
-  zip_at e right left (x ∷ xs) (y ∷ ys) zero = refl
-  zip_at e right left (x ∷ xs) (y ∷ ys) (suc j) = zip_at e right left xs ys j
-
-  pub length-zip : (xs ys : List A) → length (zip_longest op xs ys) ≡ max (length xs) (length ys)
-  length-zip [] ys = omega arith
-  length-zip (x ∷ xs) [] = omega arith
-  length-zip (x ∷ xs) (y ∷ ys) = omega (arith, length-zip xs ys)
-
--- a reading of each item
-zip_map : {A B : Type 0} (op : A → A → A) (merged : B → B → B) (read : A → B) → ((a b : A) → merged (read a) (read b) ≡ read (op a b))
-    → (xs ys : List A) → zip_longest merged (map read xs) (map read ys) ≡ map read (zip_longest op xs ys)
-zip_map op merged read reads [] ys = refl
-zip_map op merged read reads (x ∷ xs) [] = refl
-zip_map op merged read reads (x ∷ xs) (y ∷ ys) = λ i. reads x y i ∷ zip_map op merged read reads xs ys i
-
 pub vecsum_commutative : IsCommutative vecsum_merged
 vecsum_commutative = side_commutative count_commutative (zip_commutative (sum_merged limit) (sum_commutative limit))
 
 pub vecsum_stays_over : (a b : PointsSeen) → vecsum_over a ≡ true → vecsum_over (vecsum_merged a b) ≡ true
-vecsum_stays_over a b h = side_stays count_merged (zip_longest (sum_merged limit)) is_none (list_any is_none) count_stays_over (zip_stays (sum_merged limit) is_none (sum_stays_over limit)) a b h
+vecsum_stays_over a b h =
+    side_stays count_merged (zip_longest (sum_merged limit)) is_none (list_any is_none) count_stays_over
+    (zip_stays (sum_merged limit) is_none (sum_stays_over limit)) a b h
 
 -- without limits
 abbrev one_summed : ℤ → Summed
@@ -146,15 +92,22 @@ sum_at points j = by (nat_lt j (dimension points)) refl
   where
     by : (b : Bool) → nat_lt j (dimension points) ≡ b → get_or (sums_of points) j nothing ≡ sums_at points j
     by true e = get_or-map-range_with_len (sums_at points) 0 (dimension points) j j nothing (ltb-true j (dimension points) e) (omega arith)
-    by false e = get_or_past (sums_of points) j nothing (omega (arith, ltb-false j (dimension points) e, length-map-range_with_len (sums_at points) 0 (dimension points))) ∙ sym (past_all points j (ltb-false j (dimension points) e))
+    by false e =
+        let past : dimension points ≤ j = ltb-false j (dimension points) e in
+        get_or_past (sums_of points) j nothing (omega (arith, length-map-range_with_len (sums_at points) 0 (dimension points)))
+        ∙ sym (past_all points j past)
 
 sums_next : (p : List ℤ) (ps : List (List ℤ)) → sums_of (p ∷ ps) ≡ zip_longest summed (map one_summed p) (sums_of ps)
 sums_next p ps = ext_get_or nothing (sums_of (p ∷ ps)) (zip_longest summed (map one_summed p) (sums_of ps)) long each
   where
     long : length (sums_of (p ∷ ps)) ≡ length (zip_longest summed (map one_summed p) (sums_of ps))
-    long = omega (arith, length-map-range_with_len (sums_at (p ∷ ps)) 0 (dimension (p ∷ ps)), dimension_next p ps, length-zip summed (map one_summed p) (sums_of ps), length-map p one_summed, length-map-range_with_len (sums_at ps) 0 (dimension ps))
+    long =
+        let here = length-map-range_with_len (sums_at (p ∷ ps)) 0 (dimension (p ∷ ps)) in
+        let rest = length-map-range_with_len (sums_at ps) 0 (dimension ps) in
+        omega (arith, here, rest, dimension_next p ps, length-zip summed (map one_summed p) (sums_of ps), length-map p one_summed)
 
-    each : (j : ℕ) → j < length (sums_of (p ∷ ps)) → get_or (sums_of (p ∷ ps)) j nothing ≡ get_or (zip_longest summed (map one_summed p) (sums_of ps)) j nothing
+    each : (j : ℕ) → j < length (sums_of (p ∷ ps))
+        → get_or (sums_of (p ∷ ps)) j nothing ≡ get_or (zip_longest summed (map one_summed p) (sums_of ps)) j nothing
     each j h =
         sum_at (p ∷ ps) j
         ∙ sum_total.more (get_or p j (pos 0)) (coordinates ps j)
@@ -184,25 +137,32 @@ points_join : (a b : ℕ × List Summed) → vecsum_merged (points_within a) (po
 points_join a b = λ i. (counts_join a.0 b.0 i, zip_map summed (sum_merged limit) sum_within (sums_join limit) a.1 b.1 i)
 
 module _ (f : ℕ → Summed) where
-  some_over : (js : List ℕ) → list_any is_none (map sum_within (map f js)) ≡ not (list_all (λ j. nat_le (f j).1 limit) js)
+  abbrev all_fit : List ℕ → Bool
+  all_fit js = list_all (λ j. nat_le (f j).1 limit) js
+
+  abbrev read_all : List ℕ → List (Option Summed)
+  read_all js = map sum_within (map f js)
+
+  some_over : (js : List ℕ) → list_any is_none (read_all js) ≡ not (all_fit js)
   some_over [] = refl
-  some_over (j ∷ js) = elim (nat_le (f j).1 limit) as (λ b. (is_none (if b then Some (f j) else None) || list_any is_none (map sum_within (map f js))) ≡ not (b && list_all (λ j. nat_le (f j).1 limit) js)) [
+  some_over (j ∷ js) = elim (nat_le (f j).1 limit) as (λ b. (is_none (if b then Some (f j) else None) || list_any is_none (read_all js)) ≡ not (b && all_fit js)) [
     | true ↦ some_over js
     | false ↦ refl
   ]
 
-  none_over : (js : List ℕ) → list_all (λ j. nat_le (f j).1 limit) js ≡ true → map sum_number (map sum_within (map f js)) ≡ map (λ j. (f j).0) js
+  none_over : (js : List ℕ) → all_fit js ≡ true → map sum_number (read_all js) ≡ map (λ j. (f j).0) js
   none_over [] h = refl
   none_over (j ∷ js) h = by (nat_le (f j).1 limit) (none_over js) h
     where
-      by : (b : Bool) → (list_all (λ j. nat_le (f j).1 limit) js ≡ true → map sum_number (map sum_within (map f js)) ≡ map (λ j. (f j).0) js) → (b && list_all (λ j. nat_le (f j).1 limit) js) ≡ true
-          → sum_number (if b then Some (f j) else None) ∷ map sum_number (map sum_within (map f js)) ≡ (f j).0 ∷ map (λ j. (f j).0) js
+      by : (b : Bool) → (all_fit js ≡ true → map sum_number (read_all js) ≡ map (λ j. (f j).0) js) → (b && all_fit js) ≡ true
+          → sum_number (if b then Some (f j) else None) ∷ map sum_number (read_all js) ≡ (f j).0 ∷ map (λ j. (f j).0) js
       by true rest k = ap (λ l. (f j).0 ∷ l) (rest k)
       by false rest k = absurd (true≢false (sym k))
 
-  answered : (n : ℕ) (js : List ℕ) (a b : Bool) → list_all (λ j. nat_le (f j).1 limit) js ≡ b
+  answered : (n : ℕ) (js : List ℕ) (a b : Bool) → all_fit js ≡ b
       → (if a && b then Some (pos n ∷ map (λ j. (f j).0) js) else None)
-      ≡ (if is_none (if a then Some n else None) || not b then None else Some (count_number (if a then Some n else None) ∷ map sum_number (map sum_within (map f js))))
+      ≡ (if is_none (if a then Some n else None) || not b then None
+      else Some (vecsum_answer (if a then Some n else None, read_all js)))
   answered n js true true e = ap (λ l. Some (pos n ∷ l)) (sym (none_over js e))
   answered n js true false e = refl
   answered n js false b e = refl
@@ -210,8 +170,12 @@ module _ (f : ℕ → Summed) where
 vecsum_outcome : (points : List (List ℤ)) → vecsum_folded points ≡ outcome vecsum_over vecsum_answer (points_within (length points, sums_of points))
 vecsum_outcome points =
     let places : List ℕ = range_with_len 0 (dimension points) in
-    answered (sums_at points) (length points) places (nat_le (length points) limit) (list_all (λ j. nat_le (magnitude (coordinates points j)) limit) places) refl
-    ∙ ap (λ b. if is_none (within count_fits (length points)) || b then None else Some (vecsum_answer (points_within (length points, sums_of points)))) (sym (some_over (sums_at points) places))
+    let cell : PointsSeen = points_within (length points, sums_of points) in
+    answered (sums_at points) (length points) places (nat_le (length points) limit) (all_fit (sums_at points) places) refl
+    ∙ ap (λ b. if is_none cell.0 || b then None else Some (vecsum_answer cell)) (sym (some_over (sums_at points) places))
 
 pub vecsum_is_fold : IsFoldOf vecsum_unit vecsum_merged vecsum_over vecsum_answer vecsum_folded
-vecsum_is_fold = total_is_fold points_joined (λ p. (1, map one_summed p)) vecsum_merged vecsum_unit points_within (λ p. λ i. (within count_fits 1, unit_within p i)) points_join (λ points. (length points, sums_of points)) points_total vecsum_over vecsum_answer vecsum_folded vecsum_outcome
+vecsum_is_fold =
+    total_is_fold points_joined (λ p. (1, map one_summed p)) vecsum_merged vecsum_unit points_within
+    (λ p. λ i. (within count_fits 1, unit_within p i)) points_join
+    (λ points. (length points, sums_of points)) points_total vecsum_over vecsum_answer vecsum_folded vecsum_outcome

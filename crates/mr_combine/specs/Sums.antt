@@ -73,4 +73,5 @@ sum_total = record {
     no_more m = omega arith
 
 pub sum_is_fold : (most : ℕ) → IsFoldOf (sum_unit most) (sum_merged most) is_none (λ c. sum_number c ∷ []) (sum_up_to most)
-sum_is_fold most = within_is_fold (sum_fits most) summed summed_commutative (sum_bound most) (λ v. (v, nat_abs v)) (λ vs. (total vs, magnitude vs)) sum_total (λ c. sum_number c ∷ [])
+sum_is_fold most =
+    within_is_fold (sum_fits most) summed summed_commutative (sum_bound most) (λ v. (v, nat_abs v)) (λ vs. (total vs, magnitude vs)) sum_total (λ c. sum_number c ∷ [])

@@ -16,10 +16,13 @@ pub trait Combiner {
     /// What the values of a key have come to.
     type Cell: Drop;
 
+    // The cell of a value.
     ghost unit_of: { Self.Value → Self.Cell };
 
+    // The cell of the values of both.
     ghost merged: { Self.Cell → Self.Cell → Self.Cell };
 
+    // Whether the values passed a limit.
     ghost over: { Self.Cell → Bool };
 
     // Whether no call takes memory.
@@ -49,7 +52,7 @@ pub trait Combiner {
         ensures err { OnErr result (into.new ≡ into.old) }
         ensures no_memory { IsTrue fixed → IsOk result };
 
-    /// Whether the values passed the limit of the combiner. A cell that is over stays over.
+    /// Whether the values passed a limit of the combiner. A cell that is over stays over.
     fn is_over(cell: &Self::Cell) -> bool
         ensures { result ≡ over cell.now };
 
@@ -65,6 +68,7 @@ pub trait FixedCombiner: Combiner {
 
 /// What the cell of a key answers.
 pub trait Reducer<C: Combiner> {
+    // What a cell that is not over answers.
     ghost answer: { C.Cell → Answer };
 
     // What the values of a key fold to where there are values, or None where they are over.

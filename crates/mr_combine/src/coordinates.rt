@@ -1,6 +1,6 @@
 ghost use Rattle.std.specs.Prelude.{◌≡◌, ◌≤◌, ◌+◌, ◌++◌, ℤ, List, Option, length, map, OnOk, OnErr, vec_len, vec_capacity};
 ghost use Rattle.mr_defs.specs.Folded.{limit};
-ghost use Rattle.mr_combine.specs.Points.{zip_longest};
+ghost use Rattle.mr_combine.specs.Zipped.{zip_longest};
 ghost use Rattle.mr_combine.specs.Sums.{Summed, sum_unit, sum_merged};
 
 use crate::sum::SumCell;
@@ -8,6 +8,7 @@ use mr_base::Memory;
 
 /// What is added to the sum of a coordinate: a number, or another sum.
 pub trait Summand {
+    // Its own sum.
     ghost sum_of: { Self → Option Summed };
 
     /// Its own sum.

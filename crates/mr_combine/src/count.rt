@@ -11,7 +11,7 @@ use mr_base::Memory;
 use std::alloc::Global;
 use std::marker::Model;
 
-/// The number of values, or that it passed 9223372036854775807.
+/// The number of values, seen as None where it passed 9223372036854775807.
 #[derive(Debug, Drop)]
 pub struct CountCell {
     count: u64,
@@ -68,7 +68,7 @@ impl CountCell {
     }
 }
 
-/// Counts the values of a key. Over where there are more than 9223372036854775807.
+/// Counts the values of a key, and answers their number. Over where there are more than 9223372036854775807.
 pub struct Count;
 
 impl Combiner for Count {

@@ -13,17 +13,18 @@ use mr_base::Memory;
 use std::alloc::Global;
 use std::marker::PhantomData;
 
-/// An operation in which neither order nor grouping counts.
+/// An operation in which neither order nor grouping counts. Each is a combiner, whose cell is seen as what is kept, and is never over.
 pub trait Operation {
     /// What a cell keeps.
     type Scalar: Scalar;
 
+    // What both come to.
     ghost joined: { Self.Scalar → Self.Scalar → Self.Scalar };
 
     // What the values of a key fold to where there are values.
     ghost folded: { List ℤ → Option Answer };
 
-    /// What both come to.
+    /// Joins two.
     fn join(first: Self::Scalar, second: Self::Scalar) -> Self::Scalar
         ensures { result ≡ joined first second };
 
@@ -93,7 +94,7 @@ impl<O: Operation> Single for Joined<O> {
     }
 }
 
-/// Keeps the least value.
+/// Keeps the least value, and answers it.
 pub type Min = Joined<Least>;
 
 /// The lesser of two values.
@@ -115,7 +116,7 @@ impl Operation for Least {
     }
 }
 
-/// Keeps the greatest value.
+/// Keeps the greatest value, and answers it.
 pub type Max = Joined<Greatest>;
 
 /// The greater of two values.
@@ -157,7 +158,7 @@ impl Operation for Presence {
     fn join(_first: (), _second: ()) {}
 }
 
-/// Keeps the bits in two's complement that all values have.
+/// Keeps the bits in two's complement that all values have, and answers the number that has these.
 pub type And = Joined<CommonBits>;
 
 /// The bits that both have.
@@ -179,7 +180,7 @@ impl Operation for CommonBits {
     }
 }
 
-/// Keeps the bits in two's complement that some value has.
+/// Keeps the bits in two's complement that some value has, and answers the number that has these.
 pub type Or = Joined<AnyBits>;
 
 /// The bits that one has, or both.
@@ -201,7 +202,7 @@ impl Operation for AnyBits {
     }
 }
 
-/// Keeps the bits in two's complement that an odd number of values has.
+/// Keeps the bits in two's complement that an odd number of values has, and answers the number that has these.
 pub type Xor = Joined<OddBits>;
 
 /// The bits that one of both has.

@@ -42,7 +42,8 @@ impl Emitted for Point {
     ghost allowed = { λ _. Unit {0} };
 }
 
-/// The number of points and the sums of their coordinates, each with what passed the limit left out.
+/// The number of points, and of each coordinate the sum beside the sum of the magnitudes; each is seen as None where it passed
+/// 9223372036854775807.
 #[derive(Debug, Drop)]
 pub struct VecSumCell {
     points: CountCell,
@@ -57,8 +58,8 @@ impl Model for VecSumCell {
     ghost view = { λ c. (c.points, c.sums.items) };
 }
 
-/// Counts the points of a key and adds each coordinate, where a shorter point ends in zeros. Over where there are more than
-/// 9223372036854775807 points, or where the magnitudes of a coordinate add up past that number.
+/// Counts the points of a key and adds each coordinate, where a shorter point ends in zeros; it answers the number, then the sums. Over where
+/// there are more than 9223372036854775807 points, or where the magnitudes of a coordinate add up past that number.
 pub struct VecSum;
 
 impl Combiner for VecSum {

@@ -3,8 +3,10 @@ ghost use Rattle.std.specs.Int.{cast_signed, cast_unsigned, w64};
 
 /// What a cell of at most one word keeps of a number, and the number that it answers.
 pub trait Scalar: Copy + Drop {
+    // What is kept of a number.
     ghost scalar_of: { ℤ → Self };
 
+    // The number that it answers.
     ghost number_of: { Self → ℤ };
 
     /// What is kept of a number.

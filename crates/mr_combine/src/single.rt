@@ -8,6 +8,7 @@ use std::alloc::Global;
 
 /// A combiner of numbers whose calls take no memory and whose cells answer one number.
 pub trait Single: FixedCombiner<Value = i64> {
+    // The number that a cell answers.
     ghost number_of: { Self.Cell → ℤ };
 
     // What the values of a key fold to where there are values, or None where they are over.

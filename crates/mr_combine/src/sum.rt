@@ -11,7 +11,7 @@ use mr_base::Memory;
 use std::alloc::Global;
 use std::marker::Model;
 
-/// The sum of values and the sum of their magnitudes, or that the latter passed 9223372036854775807.
+/// The sum of values, seen beside the sum of their magnitudes, or as None where the latter passed 9223372036854775807.
 #[derive(Debug, Drop)]
 pub struct SumCell {
     sum: i64,
@@ -93,7 +93,7 @@ fn add_to(cell: &mut SumCell, sum: i64, magnitudes: u64)
     cell.magnitudes = total;
 }
 
-/// Adds the values of a key. Over where their magnitudes add up past 9223372036854775807.
+/// Adds the values of a key, and answers the sum. Over where their magnitudes add up past 9223372036854775807.
 pub struct Sum;
 
 impl Combiner for Sum {

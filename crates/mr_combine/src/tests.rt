@@ -85,6 +85,22 @@ fn sums_over_in_any_order(rt: HostRuntime) -> Result<(), Fail> {
     Ok(())
 }
 
+// Cells and points go from one worker to another.
+fn can_move<T: Send + Sync>(_value: &T) -> bool {
+    true
+}
+
+#[test]
+fn cells_move_between_workers(rt: HostRuntime) -> Result<(), Fail> {
+    let alloc = rt.alloc();
+    let point = Point::of(alloc, &[1])?;
+    assert!(rt; can_move(&point) && can_move(&VecSum::unit(alloc, point)?));
+    assert!(rt; can_move(&Both::<Sum, Count>::unit(alloc, 1)?));
+    assert!(rt; can_move(&Both::<Min, Xor>::unit(alloc, 1)?));
+    assert!(rt; can_move(&Buffer::unit(alloc, 1)?) && can_move(&One::unit(alloc, 1)?));
+    Ok(())
+}
+
 #[test]
 fn points_of_unequal_lengths(rt: HostRuntime) -> Result<(), Fail> {
     let alloc = rt.alloc();

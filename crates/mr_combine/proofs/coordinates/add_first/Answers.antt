@@ -1,7 +1,7 @@
 use Rattle.std.proofs.Common.{get_or, set, add-one, refl, sym, ap, ◌∙◌, arith}
 use Rattle.std.proofs.Math.ListN.{length-set}
 use Rattle.mr_defs.specs.Folded.{limit}
-use Rattle.mr_combine.specs.Points.{zip_none}
+use Rattle.mr_combine.specs.Zipped.{zip_none}
 use Rattle.mr_combine.specs.Sums.{sum_merged}
 use Rattle.mr_combine.proofs.Zipped.{zip_more}
 use Rattle.mr_combine.proofs.coordinates.add_first.Goals as goal

@@ -1,6 +1,6 @@
 use Rattle.std.proofs.Common.{◌≡◌, length, map, take}
 use Rattle.mr_defs.specs.Folded.{limit}
-use Rattle.mr_combine.specs.Points.{zip_longest}
+use Rattle.mr_combine.specs.Zipped.{zip_longest}
 use Rattle.mr_combine.specs.Sums.{sum_merged}
 use Rattle.mr_combine.proofs.coordinates.add_first.Given as goal
 
