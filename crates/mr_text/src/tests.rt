@@ -1,60 +1,96 @@
-ghost use Rattle.std.specs.Prelude.{◌≤◌, length};
+ghost use Rattle.std.specs.Prelude.{◌≡◌, ◌≤◌, length, refl, false};
+ghost use Rattle.mr_base.specs.Noting.{noted_of};
 
 use crate::{WordCount, rows_text};
-use mr_base::{Answer, ByteKey, Few, Key, Memory, NumKey, Rows};
-use mr_combine::{Combiner, Plain, Reducer, Sum};
-use mr_container::{Local, Parted, SortedLocal, map_all};
+use mr_base::{Answer, ByteKey, Faults, Few, Memory, NumKey, Rows};
+use mr_container::{Local, map_all};
 use mr_split::{Boundary, pieces};
 use std::alloc::Global;
 use std::test::Fail;
 
-/// The rows of a container: each key with the sum of its values.
-fn rows_of<L: Parted<Key = ByteKey, Value = i64, Fold = Sum>>(
-    alloc: Global,
-    local: &L,
-) -> Result<Rows<ByteKey>, Memory> {
-    let mut rows = Rows::new(alloc);
-    let mut cursor = local.cursor(0, 1);
-    for _ in 0..local.cells() {
-        if let Some((key, cell)) = local.next(&mut cursor) {
-            let answer = <Plain as Reducer<Sum>>::reduce(alloc, Sum::copy(alloc, cell)?)?;
-            rows.push(key.copy(alloc)?, answer)?;
-        }
-    }
-    Ok(rows)
+/// A container that writes down each pair in the order in which it comes.
+#[derive(Drop)]
+struct Record {
+    rows: Rows<ByteKey>,
+    faults: Faults<ByteKey>,
 }
 
-/// The words of a text and how often each stands in it, by all tasks in one container.
-fn counted(alloc: Global, text: &[u8], chunk: u32) -> Result<Rows<ByteKey>, Memory>
+impl Local for Record {
+    type Key = ByteKey;
+
+    type Value = i64;
+
+    ghost stands = { λ _ _. Unit {0} };
+
+    ghost noted = { λ r. noted_of r.faults };
+
+    ghost cell_count = { λ _. 0 };
+
+    ghost same_origin = { λ _ _. Unit {0} };
+
+    ghost same = { λ r s. noted_of s.faults ≡ noted_of r.faults };
+
+    ghost spares = { λ _ _. false };
+
+    ghost any_order = { λ _ _ _ _ _. tt };
+
+    ghost same_keeps = { λ _ _ e. (λ _ _. tt, e, refl, λ _. refl) };
+
+    ghost origin_refl = { λ _. tt };
+
+    ghost origin_trans = { λ _ _ _ _ _. tt };
+
+    fn emit(&mut self, key: ByteKey, value: i64) -> Result<(), Memory> {
+        self.rows.push(key, Answer::one(value as i128))
+    }
+
+    fn too_large(&mut self, _key: ByteKey) {}
+
+    fn malformed(&mut self, _offset: u64) {}
+
+    fn cells(&self) -> u64 {
+        0
+    }
+
+    fn faults(&self) -> &Faults<ByteKey> {
+        &self.faults
+    }
+}
+
+/// The pairs that the tasks of a text emit, one task after the other.
+fn emitted(alloc: Global, text: &[u8], chunk: u32) -> Result<Rows<ByteKey>, Memory>
     requires chunk { 1 ≤ chunk }
     requires length { length text.now ≤ 134217728 }
 {
     let pieces = pieces(alloc, text, chunk, Boundary::Word)?;
     let mapper = WordCount::new(text, &pieces);
-    let mut local: SortedLocal<ByteKey, Sum> = SortedLocal::new(alloc);
-    map_all(alloc, &mapper, &mut local)?;
-    rows_of(alloc, &local)
+    let mut record = Record {
+        rows: Rows::new(alloc),
+        faults: Faults::none(),
+    };
+    map_all(alloc, &mapper, &mut record)?;
+    Ok(record.rows)
 }
 
 #[test]
-fn counts_words(rt: HostRuntime) -> Result<(), Fail> {
+fn emits_words(rt: HostRuntime) -> Result<(), Fail> {
     let alloc = rt.alloc();
     let table: [(&str, u32, &str); 7] = [
-        ("The cat the Dog", 1, "cat 1\ndog 1\nthe 2\n"),
-        ("The cat the Dog", 100, "cat 1\ndog 1\nthe 2\n"),
+        ("The cat the Dog", 1, "the 1\ncat 1\nthe 1\ndog 1\n"),
+        ("The cat the Dog", 100, "the 1\ncat 1\nthe 1\ndog 1\n"),
         ("", 1, ""),
         (" .\n", 1, ""),
         ("aa bb", 1, "aa 1\nbb 1\n"),
-        ("Don't DON'T", 3, "don't 2\n"),
+        ("Don't DON'T", 3, "don't 1\ndon't 1\n"),
         (
-            "Ünder ünder 1st.ünder",
+            "\u{dc}b \u{fc}b 1st.Z",
             2,
-            "1st 1\n\u{dc}nder 1\n\u{fc}nder 2\n",
+            "\u{dc}b 1\n\u{fc}b 1\n1st 1\nz 1\n",
         ),
     ];
     for (text, chunk, wanted) in table {
         assert!(rt; chunk >= 1 && text.len() <= 100);
-        let rows = counted(alloc, text.as_bytes(), chunk)?;
+        let rows = emitted(alloc, text.as_bytes(), chunk)?;
         let printed = rows_text(alloc, &rows)?;
         assert!(rt; printed.as_bytes() == wanted.as_bytes(), "{text}");
     }
