@@ -13,7 +13,7 @@ use mr_base::Memory;
 use std::alloc::Global;
 use std::marker::PhantomData;
 
-/// An operation in which neither order nor grouping counts. Each is a combiner, whose cell is seen as what is kept, and is never over.
+/// An operation in which neither order nor grouping counts. `Joined` makes a combiner of each, whose cell is seen as what is kept, and is never over.
 pub trait Operation {
     /// What a cell keeps.
     type Scalar: Scalar;

@@ -1,5 +1,5 @@
 ghost use Rattle.std.specs.Prelude.{◌≡◌, ◌++◌, IfOk};
-ghost use Rattle.mr_items.specs.FaultLines.{fault_line, shown_byte, shown_text};
+ghost use Rattle.mr_items.specs.FaultLines.{fault_line, shown_text};
 ghost use Rattle.mr_jobfile.specs.FaultText.{fault_words, job_line};
 
 use crate::key::JobKey;
@@ -23,28 +23,6 @@ pub enum JobFault {
     Pairing,
 }
 
-fn shown_byte(byte: u8) -> u8
-    ensures { result ≡ shown_byte byte }
-{
-    if 33 <= byte && byte <= 126 {
-        byte
-    } else {
-        b'?'
-    }
-}
-
-/// The first 64 bytes of a key, with `?` in place of each byte outside 33 to 126.
-fn shown_text(alloc: Global, key: &[u8]) -> Result<Vec<u8>, Memory>
-    ensures { IfOk result (λ v. v.items ≡ shown_text key.now) }
-{
-    Ok(
-        key.iter()
-            .take(64)
-            .map(|byte| shown_byte(*byte))
-            .collect(alloc)?,
-    )
-}
-
 /// The line for standard error that says why, with its byte 10 at the end.
 pub fn fault_text(alloc: Global, fault: &JobFault) -> Result<Text, Memory>
     ensures { IfOk result (λ text. text ≡ job_line fault.now) }
@@ -56,7 +34,7 @@ pub fn fault_text(alloc: Global, fault: &JobFault) -> Result<Text, Memory>
         JobFault::NotToml => text.push(b"not toml")?,
         JobFault::Unknown(name) => {
             text.push(b"unknown ")?;
-            text.push(&shown_text(alloc, name.as_bytes())?)?;
+            text.push_shown(name.as_bytes())?;
         }
         JobFault::Missing(key) => {
             text.push(b"missing ")?;

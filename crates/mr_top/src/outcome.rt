@@ -5,7 +5,6 @@ ghost use Rattle.mr_defs.specs.Faulty.{first_of};
 ghost use Rattle.mr_items.specs.Outcome.{faulty};
 ghost use Rattle.mr_items.specs.Texts.{rows_text};
 ghost use Rattle.mr_items.specs.FaultLines.{fault_line, input_line, shown_text};
-ghost use Rattle.mr_jobfile.specs.Forms.{is_built_job};
 ghost use Rattle.mr_jobfile.specs.Seen.{seen};
 ghost use Rattle.mr_top.specs.Answer.{done, input_limit, inputs_wanted, job_answer, outcome_answer};
 ghost use Rattle.mr_top.specs.Counted.{IsCounted};
@@ -109,7 +108,6 @@ fn counted_at<C: Combiner<Value = i64>, R: Reducer<C>>(
 
 // The same, by the combiner of the job.
 fn counted_by(alloc: Global, job: &Job, input: &[u8]) -> Result<Reduced<ByteKey>, Memory>
-    requires built { IsTrue (is_built_job job.now.job) }
     requires length { length input.now ≤ input_limit }
     ensures { IfOk result (λ r. IsCounted (folded job.now.combiner job.now.reducer) input.now r) }
 {
@@ -133,7 +131,6 @@ fn written_out(alloc: Global, reduced: Reduced<ByteKey>) -> Result<Text, Refusal
 
 /// The text of the job on its inputs, or the refusal of their first fault.
 pub fn outcome(alloc: Global, job: &Job, inputs: &[Taken]) -> Result<Text, Refusal>
-    requires built { IsTrue (is_built_job job.now.job) }
     requires short { All (λ bytes. length bytes ≤ input_limit) inputs.now }
     requires count { length inputs.now ≡ inputs_wanted job.now.job }
     ensures ok { IfOk result (λ text. job_answer (seen job.now) inputs.now ≡ done text) }

@@ -14,4 +14,4 @@ pub returns-in-One-at_combiner : goal.returns-in-One-at_combiner
 returns-in-One-at_combiner c = subst (λ k. IfOk c.at_combiner-counted_at-3.result (λ r. IsCounted (folded k c.args.job.now.reducer) c.args.input.now r)) (sym c.in-One-at_combiner.is) c.at_combiner-counted_at-3.ensures
 
 pub at_combiner-unreachable-requires : goal.at_combiner-unreachable-requires
-at_combiner-unreachable-requires c = built_combiner c.args.job.now.job _ _ _ _ c.requires.built c.args.job.now.pairing_is_allowed c.in_default.not-Sum c.in_default.not-Count c.in_default.not-One
+at_combiner-unreachable-requires c = built_combiner c.args.job.now.job _ _ _ _ c.args.job.now.job_is_built c.args.job.now.pairing_is_allowed c.in_default.not-Sum c.in_default.not-Count c.in_default.not-One
