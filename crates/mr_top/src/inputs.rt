@@ -77,7 +77,12 @@ fn stopped_input(alloc: Global, number: usize, stop: Stop<ReadStop>) -> Refusal
 }
 
 // Reads the input of this name, which has this number.
-fn take_input<H: Shelf>(alloc: Global, shelf: &mut H, name: &str, number: usize) -> Result<Taken, Refusal>
+fn take_input<H: Shelf>(
+    alloc: Global,
+    shelf: &mut H,
+    name: &str,
+    number: usize,
+) -> Result<Taken, Refusal>
     ensures kept { H.contents shelf.new ≡ H.contents shelf.old }
     ensures later { H.count shelf.old ≤ H.count shelf.new }
     ensures ok { IfOk result (λ taken. HasContent (H.contents shelf.old) name.now (λ bytes. (taken ≡ bytes) × (length bytes ≤ input_limit))) }
@@ -128,7 +133,12 @@ fn take_all<H: Shelf>(alloc: Global, shelf: &mut H, names: &[Word]) -> Result<Ve
 }
 
 /// Reads the inputs of these names, where there are as many as the job has.
-pub fn take_inputs<H: Shelf>(alloc: Global, shelf: &mut H, kind: JobKind, names: &[Word]) -> Result<Vec<Taken>, Refusal>
+pub fn take_inputs<H: Shelf>(
+    alloc: Global,
+    shelf: &mut H,
+    kind: JobKind,
+    names: &[Word],
+) -> Result<Vec<Taken>, Refusal>
     ensures later { H.count shelf.old ≤ H.count shelf.new }
     ensures ok { IfOk result (λ taken. (next : List (List ℕ) → Answer) → IsAnswer (H.contents shelf.old) (λ content. counted_inputs kind (length names.now) (inputs_answer content 1 names.now next)) (next taken.items)) }
     ensures short { IfOk result (λ taken. All (λ bytes. length bytes ≤ input_limit) taken.items) }

@@ -12,6 +12,8 @@ mod job;
 mod outcome;
 mod refusal;
 mod running;
+#[cfg(test)]
+mod tests;
 
 pub use refusal::{MEMORY_LINE, USAGE_LINE};
 pub use running::run;

@@ -103,7 +103,7 @@ fn counted_at<C: Combiner<Value = i64>, R: Reducer<C>>(
     requires length { length input.now ≤ input_limit }
     ensures { IfOk result (λ r. IsCounted R.folded input.now r) }
 {
-    at_capacity!(capacity, counted<C, R>(alloc, input, chunk))
+    at_capacity!(capacity, counted < C, R > (alloc, input, chunk))
 }
 
 // The same, by the combiner of the job.

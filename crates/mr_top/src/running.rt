@@ -30,7 +30,12 @@ fn checked(alloc: Global) -> Result<Text, Memory>
 }
 
 // Reads the inputs of a job and runs it on them.
-fn run_job<H: Shelf>(alloc: Global, shelf: &mut H, job: &Job, names: &[Word]) -> Result<Text, Refusal>
+fn run_job<H: Shelf>(
+    alloc: Global,
+    shelf: &mut H,
+    job: &Job,
+    names: &[Word],
+) -> Result<Text, Refusal>
     ensures later { H.count shelf.old ≤ H.count shelf.new }
     ensures ok { IfOk result (λ text. IsAnswer (H.contents shelf.old) (run_answer (seen job.now) names.now) (done text)) }
     ensures err { IfErr result (λ r. Refuses r (H.contents shelf.old) (run_answer (seen job.now) names.now) (H.count shelf.old) (H.count shelf.new)) }
