@@ -8,5 +8,7 @@
 #![tactic(auto)]
 
 mod array;
+#[cfg(test)]
+mod tests;
 
 pub use array::ArrayLocal;

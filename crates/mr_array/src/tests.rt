@@ -1,0 +1,101 @@
+ghost use Rattle.std.specs.Prelude.{◌≤◌, ◌<◌};
+
+use crate::ArrayLocal;
+use mr_base::{Key, Memory, NumKey, Text};
+use mr_combine::{Buffer, Combiner, Single, Sum};
+use mr_container::{Local, Parted};
+use std::alloc::Global;
+use std::test::Fail;
+
+// Appends the keys and sums of a part, in the order in which they are read.
+fn show_part<L: Parted<Value = i64, Fold = Sum>>(
+    local: &L,
+    part: u32,
+    parts: u32,
+    text: &mut Text,
+) -> Result<(), Memory>
+    requires some { 1 ≤ parts }
+    requires few { parts ≤ 64 }
+    requires part { part < parts }
+{
+    let mut cursor = local.cursor(part, parts);
+    while let Some((key, cell)) = local.next(&mut cursor) {
+        key.print(text)?;
+        text.push(b"=")?;
+        text.push_number(Sum::number(cell))?;
+        text.push(b" ")?;
+    }
+    Ok(())
+}
+
+// All parts, one after the other.
+fn shown<L: Parted<Value = i64, Fold = Sum>>(
+    alloc: Global,
+    local: &L,
+    parts: u32,
+) -> Result<Text, Memory>
+    requires some { 1 ≤ parts }
+    requires few { parts ≤ 64 }
+{
+    let mut text = Text::new(alloc);
+    for part in 0..parts {
+        show_part(local, part, parts, &mut text)?;
+        text.push(b"|")?;
+    }
+    Ok(text)
+}
+
+#[test]
+fn keys_below_and_not_below(rt: HostRuntime) -> Result<(), Fail> {
+    let alloc = rt.alloc();
+    let mut local: ArrayLocal<Sum, 16> = ArrayLocal::new(alloc)?;
+    local.emit(NumKey(16), 1)?;
+    local.emit(NumKey(15), 4)?;
+    local.emit(NumKey(40), 1)?;
+    assert!(rt; local.cells() == 1);
+    assert!(rt; local.faults().outside == Some(NumKey(16)));
+    assert!(rt; shown(alloc, &local, 1)?.as_bytes() == b"15=4 |".as_slice());
+    local.too_large(NumKey(9));
+    local.too_large(NumKey(12));
+    local.too_large(NumKey(17));
+    local.malformed(8);
+    assert!(rt;
+        local.faults().over == Some(NumKey(9)) && local.faults().outside == Some(NumKey(16))
+    );
+    assert!(rt; local.faults().malformed == Some(8) && local.faults().twice.is_none());
+    assert!(rt; local.cells() == 1);
+    Ok(())
+}
+
+#[test]
+fn cells_part_by_part(rt: HostRuntime) -> Result<(), Fail> {
+    let alloc = rt.alloc();
+    let mut local: ArrayLocal<Sum, 768> = ArrayLocal::new(alloc)?;
+    for (key, value) in [(767u32, 5i32), (0, 1), (65, -2), (6, 3), (65, 7), (1, 8)] {
+        local.emit(NumKey(key as u64), value as i64)?;
+    }
+    assert!(rt; local.cells() == 5);
+    assert!(rt; shown(alloc, &local, 1)?.as_bytes() == b"0=1 1=8 6=3 65=5 767=5 |".as_slice());
+    assert!(rt; shown(alloc, &local, 3)?.as_bytes() == b"0=1 6=3 |1=8 |65=5 767=5 |".as_slice());
+    let bars =
+        b"0=1 |1=8 65=5 |||||6=3 |||||||||||||||||||||||||||||||||||||||||||||||||||||||||767=5 |";
+    assert!(rt; shown(alloc, &local, 64)?.as_bytes() == bars.as_slice());
+    Ok(())
+}
+
+#[test]
+fn values_of_a_buffer(rt: HostRuntime) -> Result<(), Fail> {
+    let alloc = rt.alloc();
+    let mut local: ArrayLocal<Buffer, 1> = ArrayLocal::new(alloc)?;
+    local.emit(NumKey(0), 4)?;
+    local.emit(NumKey(0), 2)?;
+    let mut cursor = local.cursor(0, 1);
+    assert!(rt;
+        local
+            .next(&mut cursor)
+            .is_some_and(|(_, cell)| !Buffer::is_over(cell))
+    );
+    assert!(rt; local.next(&mut cursor).is_none());
+    assert!(rt; local.cells() == 1);
+    Ok(())
+}
