@@ -19,3 +19,6 @@ pub use names::{
 pub use tables::{
     CAPACITIES, Further, PAIRINGS, Pairing, capacity_allowed, is_row, pairing_allowed,
 };
+
+#[cfg(test)]
+mod tests;
