@@ -18,6 +18,7 @@ named names text = option_map (λ entry. entry.1) (find (λ entry. bytes_eq entr
 abbrev pub entries : {K : Type 0} → List (Bor (List ℕ) × K) → List (List ℕ × K)
 entries names = map (λ entry. (entry.0.now, entry.1)) names
 
+-- the tables of names, one for each kind
 abbrev pub job_names : List (List ℕ × JobKind)
 job_names = map (λ entry. (entry.0.now, entry.1)) JOB_NAMES
 

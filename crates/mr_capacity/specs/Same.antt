@@ -16,6 +16,7 @@ use Rattle.mr_capacity.specs.contracts.kinds.ReducerKind as reducer
 use Rattle.mr_capacity.specs.contracts.kinds.QueueKind as queue
 use Rattle.mr_capacity.specs.contracts.tables.Further as further
 
+-- of two values of one kind, by their variants
 abbrev pub same_job : JobKind → JobKind → Bool
 same_job a b = sameb job.the_type a b
 

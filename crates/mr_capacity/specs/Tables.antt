@@ -26,10 +26,12 @@ pub record Row : Type 0 where
   pub reducers : List ReducerKind
   pub further : Further
 
+-- its columns in their order
 abbrev pub row_of : JobKind → KeyKind → List ContainerKind → List CombinerKind → List ReducerKind → Further → Row
 row_of job keys containers combiners reducers further =
     record { job = job; keys = keys; containers = containers; combiners = combiners; reducers = reducers; further = further }
 
+-- the table
 abbrev pub rows : List Row
 rows = map (λ row. row_of row.0 row.1 row.2.now row.3.now row.4.now row.5) PAIRINGS
 
@@ -52,6 +54,6 @@ abbrev pub is_row : Row → JobKind → ContainerKind → KeyKind → CombinerKi
 is_row row job container keys combiner reducer =
     same_job row.job job && same_keys row.keys keys && has_parts row container combiner reducer
 
--- some row does
+-- some row of the table does
 abbrev pub is_pairing : JobKind → ContainerKind → KeyKind → CombinerKind → Option ReducerKind → Bool
 is_pairing job container keys combiner reducer = list_any (λ row. is_row row job container keys combiner reducer) rows

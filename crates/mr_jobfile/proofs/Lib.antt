@@ -1,4 +1,5 @@
 mod Files
+mod Meant
 pub mod Allowed
 pub mod Found
 pub mod JobOf

@@ -5,6 +5,7 @@ use Rattle.mr_jobfile.specs.Forms.{is_built_job, is_built_container, is_built_co
 use Rattle.mr_jobfile.specs.Ranges.{is_within, is_count_of, are_patterns_of, has_means, has_patterns}
 use Rattle.mr_jobfile.specs.Values.{SeenJob}
 
+-- capacity and pairing are in their tables, and every number and list is in its range
 pub record IsAllowed (j : SeenJob) : Type 0 where
   pub job : IsTrue (is_built_job j.job)
   pub container : IsTrue (is_built_container j.container)

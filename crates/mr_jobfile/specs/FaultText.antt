@@ -5,6 +5,7 @@ use Rattle.mr_jobfile.specs.declared.fault.JobFault.{JobFault}
 use Rattle.mr_jobfile.specs.declared.fault.JobFault.TheVariants as fault
 use Rattle.mr_jobfile.specs.Keys.{key_text}
 
+-- what the line says of the fault
 abbrev pub fault_words : JobFault → List ℕ
 fault_words fault.TooLong = codes "too long"
 fault_words fault.NotToml = codes "not toml"
@@ -13,5 +14,6 @@ fault_words (fault.Missing k) = codes "missing " ++ key_text k
 fault_words (fault.BadValue k) = codes "bad " ++ key_text k
 fault_words fault.Pairing = codes "pairing"
 
+-- the whole line
 abbrev pub job_line : JobFault → List ℕ
 job_line fault = fault_line (codes "job " ++ fault_words fault)

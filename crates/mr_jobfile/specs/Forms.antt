@@ -36,10 +36,11 @@ texts_of no_items = Some []
 texts_of (item (string text) ds) = option_map (λ texts. text ∷ texts) (texts_of ds)
 texts_of (item _ ds) = None
 
+-- the texts of a value that is such an array
 abbrev pub texts_in : Data → Option (List (List ℕ))
 texts_in d = option_and_then texts_of (as_array d)
 
--- what is built so far
+-- the kinds that are built so far
 abbrev pub is_built_job : JobKind → Bool
 is_built_job k = list_any (λ b. same_job b k) BUILT_JOBS
 
@@ -72,5 +73,6 @@ fits key.Patterns d = is_there are_patterns (texts_in d)
 abbrev pub is_bad : Members → JobKey → Bool
 is_bad ms k = is_there (λ d. not (fits k d)) (get_member (key_text k) ms)
 
+-- the first such key
 abbrev pub first_bad : Members → Option JobKey
 first_bad ms = find (is_bad ms) ALL_KEYS

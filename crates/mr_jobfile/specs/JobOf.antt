@@ -23,6 +23,7 @@ judged ms =
     (option_map_or (λ k. Err (fault.BadValue k)) (first_bad ms)
     (option_map_or Ok (described (values_of ms)) (Err fault.Pairing))))
 
+-- the job of a file, or the first of its faults
 unfoldable pub job_of : List ℕ → Result SeenJob JobFault
 job_of bytes =
     if nat_lt JOB_LIMIT (length bytes) then Err fault.TooLong

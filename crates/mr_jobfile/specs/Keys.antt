@@ -30,9 +30,11 @@ key_text key.Patterns = codes "patterns"
 abbrev pub is_known : List ℕ → Bool
 is_known name = list_any (λ k. bytes_eq name (key_text k)) ALL_KEYS
 
+-- no key has
 abbrev pub is_unknown : List ℕ → Bool
 is_unknown name = not (is_known name)
 
+-- the keys of a table, in byte order
 abbrev pub names_in : Members → List (List ℕ)
 names_in no_members = []
 names_in (member name d ms) = name ∷ names_in ms

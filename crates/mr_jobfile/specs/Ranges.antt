@@ -4,6 +4,7 @@ use Rattle.std.specs.List.{list_any, list_all}
 use Rattle.mr_capacity.specs.declared.kinds.JobKind.{JobKind}
 use Rattle.mr_capacity.specs.declared.kinds.JobKind.TheVariants as job
 
+-- from low up to and with high
 abbrev pub is_within : ℕ → ℕ → ℕ → Bool
 is_within low high n = nat_le low n && nat_le n high
 
@@ -30,6 +31,7 @@ abbrev pub has_means : JobKind → Bool
 has_means job.KMeans = true
 has_means _ = false
 
+-- the job that has patterns
 abbrev pub has_patterns : JobKind → Bool
 has_patterns job.StringMatch = true
 has_patterns _ = false

@@ -2,6 +2,7 @@
 use Rattle.mr_jobfile.specs.declared.job.Job.{Job}
 use Rattle.mr_jobfile.specs.Values.{SeenJob}
 
+-- its fields alone
 abbrev pub seen : Job → SeenJob
 seen j = record {
   job = j.job;

@@ -24,6 +24,7 @@ use Rattle.mr_jobfile.specs.Forms.{number_in, kind_in, texts_in}
 abbrev pub said : {A : Type 0} → (Data → Option A) → JobKey → Members → Option A
 said read k ms = option_and_then read (get_member (key_text k) ms)
 
+-- what it says of each key
 abbrev pub values_of : Members → Values
 values_of ms = record {
   job = said (kind_in job_names) key.Job ms;
@@ -77,6 +78,7 @@ pub record SeenJob : Type 0 where
   pub rounds : ℕ
   pub patterns : List (List ℕ)
 
+-- the chunk of a job whose file gives no number
 abbrev pub default_chunk : JobKind → ℕ
 default_chunk job = if is_text_job job then DEFAULT_TEXT_CHUNK else DEFAULT_CHUNK
 
@@ -97,6 +99,7 @@ job_with v job container capacity combiner keys = record {
   patterns = unwrap_or v.patterns [];
 }
 
+-- a job has the four kinds and numbers that every file needs, and fits a row
 abbrev pub job_by : Values → Option JobKind → Option ContainerKind → Option ℕ → Option CombinerKind → Option SeenJob
 job_by v (Some job) (Some container) (Some capacity) (Some combiner) =
     option_map (job_with v job container capacity combiner) (keys_in rows v job container combiner)
