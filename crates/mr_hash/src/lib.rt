@@ -12,5 +12,7 @@ mod entry;
 mod hash;
 mod slots;
 mod table;
+#[cfg(test)]
+mod tests;
 
 pub use hash::HashLocal;
