@@ -42,6 +42,14 @@ fn main(rt: HostRuntime) -> ExitCode {
     let mut shelf = FileShelf::new(&rt);
     let mut out = StdSink::new(rt.stdout());
     let mut err = StdSink::new(rt.stderr());
-    let status = run(&rt, alloc, &words, &mut shelf, &mut out, &mut err, &PassGate::new());
+    let status = run(
+        &rt,
+        alloc,
+        &words,
+        &mut shelf,
+        &mut out,
+        &mut err,
+        &PassGate::new(),
+    );
     ExitCode::from(status.code())
 }

@@ -10,13 +10,22 @@ use std::marker::Model;
 fn shown_byte(byte: u8) -> u8
     ensures { result ≡ shown_byte byte }
 {
-    if 33 <= byte && byte <= 126 { byte } else { b'?' }
+    if 33 <= byte && byte <= 126 {
+        byte
+    } else {
+        b'?'
+    }
 }
 
 fn shown_text(alloc: Global, key: &[u8]) -> Result<Vec<u8>, Memory>
     ensures { IfOk result (λ v. v.items ≡ shown_text key.now) }
 {
-    Ok(key.iter().take(64).map(|byte| shown_byte(*byte)).collect(alloc)?)
+    Ok(
+        key.iter()
+            .take(64)
+            .map(|byte| shown_byte(*byte))
+            .collect(alloc)?,
+    )
 }
 
 /// Bytes that are to be written, seen as the list of them.
