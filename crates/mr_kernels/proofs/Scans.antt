@@ -54,3 +54,6 @@ block_some p xs at n mask room few is some =
   where
     below : (r : ℕ) → r ≤ n → (r ≡ n → ⊥) → r < n
     below r le ne = omega arith
+
+pub first_within : (p : ℕ → Bool) (xs : List ℕ) (from : ℕ) → from ≤ length xs → from + position_or_len p (drop from xs) ≤ length xs
+first_within p xs from h = omega (arith, length-drop from xs, prefix_len-le-length (λ b. not (p b)) (drop from xs))

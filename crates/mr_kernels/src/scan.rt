@@ -74,7 +74,8 @@ fn sought_in_block(bytes: &[u8], at: usize, target: Target) -> u64
 #[inline(always)]
 fn scan_bytes(bytes: &[u8], from: usize, target: Target) -> usize
     requires { from ≤ length bytes.now }
-    ensures { result ≡ target_in target bytes.now from }
+    ensures place { result ≡ target_in target bytes.now from }
+    ensures inside { (from ≤ result) × (result ≤ length bytes.now) }
 {
     for at in from..bytes.len() {
         if is_sought(bytes[at], target) {
@@ -88,7 +89,8 @@ fn scan_bytes(bytes: &[u8], from: usize, target: Target) -> usize
 #[inline(always)]
 fn scan_blocks(bytes: &[u8], from: usize, target: Target) -> usize
     requires { from ≤ length bytes.now }
-    ensures { result ≡ target_in target bytes.now from }
+    ensures place { result ≡ target_in target bytes.now from }
+    ensures inside { (from ≤ result) × (result ≤ length bytes.now) }
 {
     let mut at = from;
     while bytes.len() - at >= 16 {
@@ -105,7 +107,8 @@ fn scan_blocks(bytes: &[u8], from: usize, target: Target) -> usize
 /// or a byte from 128.
 pub fn word_start(bytes: &[u8], from: usize) -> usize
     requires { from ≤ length bytes.now }
-    ensures { result ≡ word_start_in bytes.now from }
+    ensures place { result ≡ word_start_in bytes.now from }
+    ensures inside { (from ≤ result) × (result ≤ length bytes.now) }
 {
     if from < bytes.len() && is_word(bytes[from]) {
         return from;
@@ -120,7 +123,8 @@ pub fn word_start(bytes: &[u8], from: usize) -> usize
 /// The least place at or after `from` whose byte is no word byte, or the length.
 pub fn word_end(bytes: &[u8], from: usize) -> usize
     requires { from ≤ length bytes.now }
-    ensures { result ≡ word_end_in bytes.now from }
+    ensures place { result ≡ word_end_in bytes.now from }
+    ensures inside { (from ≤ result) × (result ≤ length bytes.now) }
 {
     scan_blocks(bytes, from, Target::OtherByte)
 }
@@ -128,7 +132,8 @@ pub fn word_end(bytes: &[u8], from: usize) -> usize
 /// The least place at or after `from` with a byte 10, or the length.
 pub fn line_end(bytes: &[u8], from: usize) -> usize
     requires { from ≤ length bytes.now }
-    ensures { result ≡ line_end_in bytes.now from }
+    ensures place { result ≡ line_end_in bytes.now from }
+    ensures inside { (from ≤ result) × (result ≤ length bytes.now) }
 {
     scan_blocks(bytes, from, Target::LineEnd)
 }

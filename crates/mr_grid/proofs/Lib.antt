@@ -1,0 +1,11 @@
+pub mod Chunks
+pub mod Digits
+pub mod Elements
+pub mod Faults
+pub mod Judged
+pub mod Numerals
+pub mod Places
+pub mod Rows
+pub mod Earliest
+pub mod Turned
+pub mod Whole

@@ -1,0 +1,4 @@
+pub mod Dense
+pub mod Fields
+pub mod Pixels
+pub mod Reading

@@ -1,0 +1,99 @@
+ghost use Rattle.std.specs.Prelude.{◌≡◌, ◌≤◌, ◌<◌, ◌+◌, min, length, drop, slice_index, true, Some, None, if◌then◌else◌};
+ghost use Rattle.std.specs.Char.{is_ascii_digit};
+ghost use Rattle.std.specs.List.{prefix_len};
+ghost use Rattle.std.specs.Str.Parse.{digits_value};
+ghost use Rattle.mr_items.specs.Grid.{element_of};
+ghost use Rattle.mr_items.specs.Lines.{is_field_byte};
+ghost use Rattle.mr_items.specs.Number.{is_numeral_up_to};
+ghost use Rattle.mr_items.specs.Runs.{run_at};
+ghost use Rattle.mr_grid.specs.Fields.{stays, run_end_in};
+
+/// The largest magnitude of an element.
+const MOST: u64 = 2147483647;
+
+/// A field that was read: its element, if it is one, and where the field ends.
+#[derive(Clone, Copy)]
+pub struct Field {
+    pub element: Option<i32>,
+    pub end: usize,
+}
+
+/// The digits from a place on: their number, or 2147483648 where it is larger, and where they end.
+#[derive(Clone, Copy)]
+struct Digits {
+    value: u64,
+    end: usize,
+}
+
+/// Neither a space nor a tab.
+fn is_field(byte: u8) -> bool
+    ensures { result ≡ is_field_byte byte }
+{
+    byte != 32 && byte != 9
+}
+
+/// Where the bytes of a field, or else the bytes between fields, end from a place on.
+#[inline(always)]
+pub fn run_end(line: &[u8], from: usize, of_field: bool) -> usize
+    requires { from ≤ length line.now }
+    ensures { result ≡ run_end_in of_field line.now from }
+{
+    for at in from..line.len() {
+        if is_field(line[at]) != of_field {
+            return at;
+        }
+    }
+    line.len()
+}
+
+#[inline(always)]
+fn digits_at(line: &[u8], from: usize) -> Digits
+    requires { from ≤ length line.now }
+    ensures end { result.end ≡ from + prefix_len is_ascii_digit (drop from line.now) }
+    ensures value { result.value ≡ min (digits_value 10 (run_at is_ascii_digit line.now from)) 2147483648 }
+{
+    let mut value = 0u64;
+    for at in from..line.len() {
+        if !line[at].is_ascii_digit() {
+            return Digits { value, end: at };
+        }
+        value = (value * 10 + (line[at] - b'0') as u64).min(MOST + 1);
+    }
+    Digits {
+        value,
+        end: line.len(),
+    }
+}
+
+/// The number of the field's bytes from a place on, if they are digits of a number that is at most 2147483647, and where they end.
+#[inline(always)]
+fn natural_at(line: &[u8], from: usize) -> (Option<u32>, usize)
+    requires { from ≤ length line.now }
+    ensures end { result.1 ≡ run_end_in true line.now from }
+    ensures number { result.0 ≡ (if is_numeral_up_to 2147483647 (run_at is_field_byte line.now from) then Some (digits_value 10 (run_at is_field_byte line.now from)) else None) }
+{
+    let digits = digits_at(line, from);
+    let end = run_end(line, digits.end, true);
+    if from < end && end == digits.end && digits.value <= MOST {
+        return (Some(digits.value as u32), end);
+    }
+    (None, end)
+}
+
+/// The field that begins at a place.
+#[inline(always)]
+pub fn field_at(line: &[u8], from: usize) -> Field
+    requires inside { from < length line.now }
+    requires begins { is_field_byte (slice_index line.now from) ≡ true }
+    ensures end { result.end ≡ run_end_in true line.now from }
+    ensures element { result.element ≡ element_of (run_at is_field_byte line.now from) }
+{
+    let minus = line[from] == b'-';
+    let (natural, end) = natural_at(line, from + usize::from(minus));
+    let element = match natural {
+        Some(n) if minus => Some(0 - n as i32),
+        Some(n) => Some(n as i32),
+        None => None,
+    };
+    Field { element, end }
+}
