@@ -1,7 +1,7 @@
-use Rattle.std.proofs.Common.{◌≤◌, subst, sym, ap, ◌∙◌, length, take, drop, ◌-◌, [], ◌∷◌, arith}
+use Rattle.std.proofs.Common.{subst, sym, ap, ◌∙◌, length, take, drop, ◌-◌, [], ◌∷◌}
 use Rattle.std.specs.Prelude.{flat_map, filter}
 use Rattle.std.specs.List.{All, range_with_len}
-use Rattle.mr_defs.specs.Tasks.{items_in, step_of}
+use Rattle.mr_defs.specs.Tasks.{items_in}
 use Rattle.mr_defs.proofs.Chains.{pieces_of-IsChain}
 use Rattle.mr_defs.proofs.Joins.{flat_map-all_tasks}
 use Rattle.mr_split.specs.Pieces.{boundary_of, IsPiece}
