@@ -1,5 +1,5 @@
 -- The combiners of the job that is built.
-use Rattle.std.proofs.Common.{◌≡◌, Bool, true, false, ◌&&◌, ◌||◌, true≢false, List, [], ◌∷◌, Option, Some, None, IsTrue, refl, sym}
+use Rattle.std.proofs.Common.{◌≡◌, Bool, true, false, ◌&&◌, ◌||◌, true≢false, [], ◌∷◌, Option, Some, None, IsTrue, refl, sym}
 use Rattle.mr_capacity.specs.declared.kinds.JobKind.{JobKind}
 use Rattle.mr_capacity.specs.declared.kinds.JobKind.TheVariants as job
 use Rattle.mr_capacity.specs.declared.kinds.ContainerKind.{ContainerKind}
@@ -10,7 +10,7 @@ use Rattle.mr_capacity.specs.declared.kinds.CombinerKind.{CombinerKind}
 use Rattle.mr_capacity.specs.declared.kinds.CombinerKind.TheVariants as combiner
 use Rattle.mr_capacity.specs.declared.kinds.ReducerKind.{ReducerKind}
 use Rattle.mr_capacity.specs.declared.tables.Further.TheVariants as further
-use Rattle.mr_capacity.specs.Tables.{Row, row_of, rows, has_combiner, is_pairing}
+use Rattle.mr_capacity.specs.Tables.{Row, row_of, has_combiner, is_pairing}
 use Rattle.mr_jobfile.specs.Forms.{is_built_job}
 
 abbrev counts_row : Row

@@ -1,6 +1,6 @@
 -- As many inputs as the job has.
-use Rattle.std.proofs.Common.{◌≡◌, ℕ, true, arith, ap, eq-eqb}
-use Rattle.std.specs.Prelude.{◌==◌, if◌then◌else◌}
+use Rattle.std.proofs.Common.{◌≡◌, ℕ, ap, eq-eqb}
+use Rattle.std.specs.Prelude.{if◌then◌else◌}
 use Rattle.mr_base.specs.declared.status.Status.TheVariants as status
 use Rattle.mr_items.specs.FaultLines.{inputs_line}
 use Rattle.mr_capacity.specs.declared.kinds.JobKind.{JobKind}

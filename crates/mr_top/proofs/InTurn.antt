@@ -1,5 +1,5 @@
 -- The inputs that were read so far, and the answer of those that are left.
-use Rattle.std.proofs.Common.{◌≡◌, ℕ, ◌+◌, ◌<◌, ◌≤◌, List, [], ◌∷◌, ◌++◌, length, drop, get_or, nat_lt, codes, Some, None, true, false, inl, inr, ◌⊎◌, if◌then◌else◌, refl, sym, ap, subst, ◌∙◌, arith}
+use Rattle.std.proofs.Common.{◌≡◌, ℕ, ◌+◌, ◌<◌, ◌≤◌, List, [], ◌∷◌, ◌++◌, length, drop, get_or, nat_lt, codes, Some, None, false, if◌then◌else◌, refl, sym, ap, subst, ◌∙◌, arith}
 use Rattle.std.specs.declared.option.Option.{Option}
 use Rattle.std.proofs.lemmas.List.{drop_more, append_assoc, append-nil}
 use Rattle.std.proofs.lemmas.List.Elements.{All-append}
@@ -8,12 +8,10 @@ use Rattle.std.proofs.Math.ListN.{drop_of_length-le}
 use Rattle.mr_top.proofs.Same.{refuses_same}
 use Rattle.mr_base.specs.declared.status.Status.TheVariants as status
 use Rattle.mr_items.specs.FaultLines.{input_line}
-use Rattle.mr_outside.specs.Count.{Rose}
 use Rattle.mr_outside.specs.Shelf.{HasContent}
 use Rattle.mr_top.specs.declared.refusal.Refusal.{Refusal}
-use Rattle.mr_top.specs.declared.refusal.Refusal.TheVariants as refusal
 use Rattle.mr_top.specs.Answer.{Answer, refused, Contents, inputs_answer, input_answer, input_limit}
-use Rattle.mr_top.specs.Refuses.{Refuses, IsAnswer, ReadCause}
+use Rattle.mr_top.specs.Refuses.{Refuses, IsAnswer}
 
 -- where contents are told, the answer from the first name on is that of the names from this index on, behind what was taken
 abbrev pub Reads : Option Contents → List (List ℕ) → ℕ → List (List ℕ) → Type 0

@@ -1,10 +1,10 @@
 -- A refusal by one answer is a refusal by another that is the same.
-use Rattle.std.proofs.Common.{◌≡◌, ℕ, ◌≤◌, ◌+◌, ◌-◌, ◌^◌, min, Some, None, inl, inr, ◌⊎◌, refl, sym, subst, ◌∙◌, arith}
+use Rattle.std.proofs.Common.{◌≡◌, ℕ, ◌≤◌, Some, None, inl, inr, refl, subst, ◌∙◌, arith}
 use Rattle.std.specs.declared.option.Option.{Option}
 use Rattle.mr_outside.specs.Count.{Rose}
 use Rattle.mr_top.specs.declared.refusal.Refusal.{Refusal}
 use Rattle.mr_top.specs.declared.refusal.Refusal.TheVariants as refusal
-use Rattle.mr_top.specs.Answer.{Answer, Contents, read_fault}
+use Rattle.mr_top.specs.Answer.{Answer, Contents}
 use Rattle.mr_top.specs.Refuses.{Refuses, RefusesBy, IsAnswer, ReadCause}
 
 module _ (contents : Option Contents) (all part : Contents → Answer) (same : (content : Contents) → contents ≡ Some content → all content ≡ part content) where

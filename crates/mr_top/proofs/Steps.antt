@@ -1,5 +1,5 @@
 -- What each step of a run says of the answer.
-use Rattle.std.proofs.Common.{◌≡◌, ℕ, List, length, codes, Some, None, Ok, refl, sym, ap, subst, ◌∙◌, ◌≤◌, arith}
+use Rattle.std.proofs.Common.{◌≡◌, ℕ, List, codes, Some, None, Ok, refl, sym, ap, subst, ◌∙◌, ◌≤◌, arith}
 use Rattle.std.specs.declared.option.Option.{Option}
 use Rattle.mr_outside.specs.Shelf.{HasContent}
 use Rattle.mr_command.specs.declared.command.Mode.{Mode}

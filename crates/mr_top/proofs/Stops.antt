@@ -1,5 +1,5 @@
 -- What a read that stopped says of the answer.
-use Rattle.std.proofs.Common.{◌≡◌, ◌⊎◌, ◌<◌, ◌≤◌, ℕ, List, length, Some, None, Err, Result, nat_lt, true, false, inl, inr, refl, sym, subst, arith, codes}
+use Rattle.std.proofs.Common.{◌≡◌, ◌⊎◌, ◌<◌, ℕ, List, length, Some, None, Err, Result, nat_lt, true, inl, inr, refl, sym, subst, arith, codes}
 use Rattle.std.specs.declared.option.Option.{Option}
 use Rattle.mr_base.specs.declared.Stop.{Stop}
 use Rattle.mr_base.specs.declared.Stop.TheVariants as stop

@@ -3,7 +3,6 @@ use Rattle.std.specs.Prelude.{◌≡◌, ℕ, ℤ, List, Option}
 use Rattle.mr_defs.specs.Emission.{Answer}
 use Rattle.mr_defs.specs.Faulty.{fault_of, first_of}
 use Rattle.mr_defs.specs.Rows.{rows_of}
-use Rattle.mr_base.specs.declared.faults.Faults.{Faults}
 use Rattle.mr_items.specs.Outcome.{byte_order, all_inside}
 use Rattle.mr_items.specs.WordCount.{word_count_pairs}
 use Rattle.mr_phase.specs.declared.reduce.Reduced.{Reduced}

@@ -1,12 +1,12 @@
 -- What stands after a run.
-use Rattle.std.specs.Prelude.{◌≡◌, ◌⊎◌, ℕ, List, codes, Option, Some, None}
+use Rattle.std.specs.Prelude.{◌⊎◌, ℕ, List, codes, Option}
 use Rattle.std.specs.Io.KnownBytes.{Appends, Keeps}
 use Rattle.mr_base.specs.declared.status.Status.{Status}
 use Rattle.mr_base.specs.declared.status.Status.TheVariants as status
 use Rattle.mr_items.specs.FaultLines.{fault_line}
 use Rattle.mr_outside.specs.Count.{Rose}
 use Rattle.mr_outside.specs.Sink.{AppendsPart}
-use Rattle.mr_top.specs.Answer.{Answer, done, refused, answer, Contents}
+use Rattle.mr_top.specs.Answer.{done, refused, answer, Contents}
 use Rattle.mr_top.specs.Refuses.{IsAnswer}
 
 -- the answer is a refusal with this status, and the output gained nothing

@@ -7,7 +7,7 @@ use Rattle.mr_items.specs.FaultLines.{fault_line}
 use Rattle.mr_outside.specs.Count.{Rose}
 use Rattle.mr_top.specs.declared.refusal.Refusal.{Refusal}
 use Rattle.mr_top.specs.declared.refusal.Refusal.TheVariants as refusal
-use Rattle.mr_top.specs.Answer.{Answer, done, refused, Contents, usage, read_fault}
+use Rattle.mr_top.specs.Answer.{Answer, refused, Contents, usage, read_fault}
 
 abbrev pub status_of_refusal : Refusal → Status
 status_of_refusal refusal.Usage = status.Usage

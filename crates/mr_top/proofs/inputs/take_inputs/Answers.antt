@@ -1,5 +1,4 @@
-use Rattle.std.proofs.Common.{rules, ◌≡◌, length, true, arith}
-use Rattle.std.specs.Prelude.{◌==◌}
+use Rattle.std.proofs.Common.{rules, ◌≡◌, length}
 use Rattle.mr_top.specs.Answer.{inputs_wanted, inputs_answer}
 use Rattle.mr_top.proofs.Same.{answers_same, refuses_same}
 use Rattle.mr_top.proofs.Counted.{as_wanted}
