@@ -6,8 +6,8 @@ use Rattle.std.proofs.lemmas.List.{length-map, length-take, nil_from_length}
 use Rattle.mr_items.specs.Grid.{row_fault, element_of}
 use Rattle.mr_items.specs.Lines.{fields, is_field_byte, line_at, without_return}
 use Rattle.mr_items.specs.Runs.{begins, run_at, run_places}
-use Rattle.mr_items.specs.declared.GridFault.{GridFault}
 use Rattle.mr_items.specs.declared.GridFault.TheVariants as fault
+use Rattle.mr_grid.specs.Reading.{line_fault}
 use Rattle.mr_grid.specs.Fields.{stray_of, elements_in}
 
 -- what is found in a filtered range lies in the range
@@ -43,21 +43,17 @@ module _ (bytes : List ℕ) (at : ℕ) where
   abbrev line : List ℕ
   line = without_return (line_at bytes at)
 
-  -- of a line with so many fields, as the code judges it
-  abbrev pub judged : ℕ → Option ℕ → ℕ → Option GridFault
-  judged n stray columns = if nat_lt 1024 n then Some (fault.Wide at) else (if not (n == columns) then Some (fault.Ragged at) else option_map (λ field. fault.Number (at + field)) stray)
-
   pub count_is : length (run_places is_field_byte line) ≡ count
   count_is = sym (length-map (run_places is_field_byte line) (run_at is_field_byte line))
 
-  pub judged_is : (n columns width : ℕ) (stray : Option ℕ) → n ≡ min count 1025 → (n ≤ 1024 → stray ≡ stray_of line) → (n ≤ 1024 → columns ≡ width) → judged n stray columns ≡ row_fault bytes width at
-  judged_is n columns width stray is found wide = by (nat_lt 1024 count) refl
+  pub line_fault-is : (n columns width : ℕ) (stray : Option ℕ) → n ≡ min count 1025 → (n ≤ 1024 → stray ≡ stray_of line) → (n ≤ 1024 → columns ≡ width) → line_fault at n stray columns ≡ row_fault bytes width at
+  line_fault-is n columns width stray is found wide = by (nat_lt 1024 count) refl
     where
       joined : (o : Option ℕ) → option_map (λ field. fault.Number (at + field)) o ≡ option_map fault.Number (option_map (λ field. at + field) o)
       joined None = refl
       joined (Some s) = refl
 
-      by : (t : Bool) → nat_lt 1024 count ≡ t → judged n stray columns ≡ (if t then Some (fault.Wide at) else (if not (count == width) then Some (fault.Ragged at) else option_map fault.Number (option_map (λ field. at + field) (stray_of line))))
+      by : (t : Bool) → nat_lt 1024 count ≡ t → line_fault at n stray columns ≡ (if t then Some (fault.Wide at) else (if not (count == width) then Some (fault.Ragged at) else option_map fault.Number (option_map (λ field. at + field) (stray_of line))))
       by true e = ap (λ b. if b then Some (fault.Wide at) else (if not (n == columns) then Some (fault.Ragged at) else option_map (λ field. fault.Number (at + field)) stray)) (lt-ltb 1024 n (omega (arith, is, ltb-true 1024 count e)))
       by false e =
           let few : n ≤ 1024 = omega (arith, is, ltb-false 1024 count e) in

@@ -1,12 +1,12 @@
 -- The digits at the front of a field, and the field as a numeral.
-use Rattle.std.proofs.Common.{◌≡◌, ℕ, suc, ◌+◌, ◌<◌, ◌≤◌, min, Bool, true, false, not, ◌&&◌, cond, if◌then◌else◌, List, [], ◌∷◌, length, nat_le, nat_lt, Option, Some, None, refl, sym, ap, ap₂, ◌∙◌, arith, take, drop}
+use Rattle.std.proofs.Common.{◌≡◌, ℕ, suc, ◌+◌, ◌<◌, ◌≤◌, min, Bool, true, false, not, ◌&&◌, cond, if◌then◌else◌, List, [], ◌∷◌, length, nat_le, nat_lt, Some, None, refl, sym, ap, ap₂, ◌∙◌, arith, take, drop}
 use Rattle.std.specs.Char.{is_ascii_digit}
 use Rattle.std.specs.List.{list_all, take_while, prefix_len}
 use Rattle.std.specs.Str.Parse.{digits_value}
 use Rattle.std.proofs.lemmas.Bool.{leb-true, le-leb, lt-leb, lt-ltb, le-ltb, ne_eqb}
 use Rattle.std.proofs.lemmas.List.Folds.{length-prefix_len}
 use Rattle.mr_items.specs.Lines.{is_field_byte}
-use Rattle.mr_items.specs.Number.{is_numeral_up_to}
+use Rattle.mr_grid.specs.Fields.{numeral_of}
 use Rattle.mr_grid.proofs.Digits.{left_true}
 
 -- a digit is a byte of a field
@@ -54,41 +54,38 @@ module _ (u : List ℕ) (n value : ℕ) (count : n ≡ prefix_len is_ascii_digit
   abbrev field : List ℕ
   field = take_while is_field_byte u
 
-  abbrev natural_of_field : Option ℕ
-  natural_of_field = if is_numeral_up_to 2147483647 field then Some (digits_value 10 field) else None
-
-  decided : (a b c : Bool) → nat_lt 0 (length field) ≡ a → list_all is_ascii_digit field ≡ b → nat_le (digits_value 10 field) 2147483647 ≡ c → natural_of_field ≡ (if a && (b && c) then Some (digits_value 10 field) else None)
+  decided : (a b c : Bool) → nat_lt 0 (length field) ≡ a → list_all is_ascii_digit field ≡ b → nat_le (digits_value 10 field) 2147483647 ≡ c → numeral_of field ≡ (if a && (b && c) then Some (digits_value 10 field) else None)
   decided a b c e f g = λ i. if e i && (f i && g i) then Some (digits_value 10 field) else None
 
   same_field : prefix_len is_field_byte u ≡ n → take_while is_ascii_digit u ≡ field
   same_field e = ap (λ k. take k u) (sym count ∙ sym e)
 
-  pub natural_is : 0 < n → prefix_len is_field_byte u ≡ n → value ≤ 2147483647 → Some value ≡ natural_of_field
+  pub natural_is : 0 < n → prefix_len is_field_byte u ≡ n → value ≤ 2147483647 → Some value ≡ numeral_of field
   natural_is some whole small =
       let size : length field ≡ n = length-prefix_len is_field_byte u ∙ whole in
       let same : digits_value 10 (take_while is_ascii_digit u) ≡ digits_value 10 field = ap (digits_value 10) (same_field whole) in
       let number : value ≡ digits_value 10 field = omega (arith, is, same, small) in
       ap Some number ∙ sym (decided true true true (lt-ltb 0 (length field) (omega arith)) (all_digits u (whole ∙ count)) (le-leb (digits_value 10 field) 2147483647 (omega arith)))
 
-  pub natural_large : prefix_len is_field_byte u ≡ n → 2147483647 < value → None ≡ natural_of_field
+  pub natural_large : prefix_len is_field_byte u ≡ n → 2147483647 < value → None ≡ numeral_of field
   natural_large whole large =
       let same : digits_value 10 (take_while is_ascii_digit u) ≡ digits_value 10 field = ap (digits_value 10) (same_field whole) in
       by (nat_lt 0 (length field)) (list_all is_ascii_digit field) refl refl (lt-leb (digits_value 10 field) 2147483647 (omega (arith, is, same, large)))
     where
-      by : (a b : Bool) → nat_lt 0 (length field) ≡ a → list_all is_ascii_digit field ≡ b → nat_le (digits_value 10 field) 2147483647 ≡ false → None ≡ natural_of_field
+      by : (a b : Bool) → nat_lt 0 (length field) ≡ a → list_all is_ascii_digit field ≡ b → nat_le (digits_value 10 field) 2147483647 ≡ false → None ≡ numeral_of field
       by true true e f g = sym (decided true true false e f g)
       by true false e f g = sym (decided true false false e f g)
       by false b e f g = sym (decided false b false e f g)
 
-  pub natural_stray : n < prefix_len is_field_byte u → None ≡ natural_of_field
+  pub natural_stray : n < prefix_len is_field_byte u → None ≡ numeral_of field
   natural_stray more = by (nat_lt 0 (length field)) (nat_le (digits_value 10 field) 2147483647) refl refl (some_other u (omega (arith, count, more)))
     where
-      by : (a c : Bool) → nat_lt 0 (length field) ≡ a → nat_le (digits_value 10 field) 2147483647 ≡ c → list_all is_ascii_digit field ≡ false → None ≡ natural_of_field
+      by : (a c : Bool) → nat_lt 0 (length field) ≡ a → nat_le (digits_value 10 field) 2147483647 ≡ c → list_all is_ascii_digit field ≡ false → None ≡ numeral_of field
       by true c e g f = sym (decided true false c e f g)
       by false c e g f = sym (decided false false c e f g)
 
-  pub natural_empty : prefix_len is_field_byte u ≡ 0 → None ≡ natural_of_field
+  pub natural_empty : prefix_len is_field_byte u ≡ 0 → None ≡ numeral_of field
   natural_empty none = by (list_all is_ascii_digit field) (nat_le (digits_value 10 field) 2147483647) refl refl (le-ltb 0 (length field) (omega (arith, length-prefix_len is_field_byte u, none)))
     where
-      by : (b c : Bool) → list_all is_ascii_digit field ≡ b → nat_le (digits_value 10 field) 2147483647 ≡ c → nat_lt 0 (length field) ≡ false → None ≡ natural_of_field
+      by : (b c : Bool) → list_all is_ascii_digit field ≡ b → nat_le (digits_value 10 field) 2147483647 ≡ c → nat_lt 0 (length field) ≡ false → None ≡ numeral_of field
       by b c f g e = sym (decided false b c e f g)

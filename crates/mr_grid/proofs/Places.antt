@@ -9,6 +9,18 @@ use Rattle.mr_defs.proofs.Joins.{range-append}
 use Rattle.mr_defs.proofs.Places.{IsNowhere, places-next, places-none}
 use Rattle.mr_items.specs.Runs.{begins}
 
+pub negated : (b : Bool) → not b ≡ true → b ≡ false
+negated true e = sym e
+negated false e = refl
+
+pub negated_not : (b : Bool) → not b ≡ false → b ≡ true
+negated_not true e = refl
+negated_not false e = sym e
+
+pub or_true : (b : Bool) → (b || true) ≡ true
+or_true true = refl
+or_true false = refl
+
 -- the places that pass a test, below a place
 abbrev pub places_below : (ℕ → Bool) → ℕ → List ℕ
 places_below p at = filter p (range_with_len 0 at)
@@ -63,18 +75,6 @@ module _ (p : ℕ → Bool) (xs : List ℕ) where
 
   begins_after : (k : ℕ) → 0 < k → p (get_or xs k 0) ≡ true → p (get_or xs (k - 1) 0) ≡ false → begins p xs k ≡ true
   begins_after k h e f = ap₂ (λ a b. a && ((k == 0) || not b)) e f ∙ or_true (k == 0)
-    where
-      or_true : (b : Bool) → (b || true) ≡ true
-      or_true true = refl
-      or_true false = refl
-
-  negated : (b : Bool) → not b ≡ true → b ≡ false
-  negated true e = sym e
-  negated false e = refl
-
-  negated_not : (b : Bool) → not b ≡ false → b ≡ true
-  negated_not true e = refl
-  negated_not false e = sym e
 
   -- past the bytes between two runs
   pub gap_nowhere : (e next : ℕ) → next ≡ e + prefix_len (λ b. not (p b)) (drop e xs) → IsNowhere (begins p xs) e next

@@ -1,5 +1,5 @@
 -- The lines of a grid, met one after the other: what each adds, and the first that is refused.
-use Rattle.std.proofs.Common.{◌≡◌, ℕ, ◌+◌, ◌-◌, ◌<◌, ◌≤◌, min, ℤ, Bool, true, false, not, ◌==◌, ◌||◌, nat_lt, cond, List, [], ◌∷◌, ◌++◌, length, filter, filter_map, flat_map, drop, get_or, slice_get, Some, None, Ok, Err, refl, sym, ap, ap₂, ◌∙◌, arith, append-nil}
+use Rattle.std.proofs.Common.{◌≡◌, ℕ, ◌+◌, ◌-◌, ◌<◌, ◌≤◌, min, ℤ, Bool, true, false, not, ◌==◌, ◌||◌, nat_lt, cond, List, [], ◌∷◌, ◌++◌, length, filter, filter_map, flat_map, drop, get_or, slice_get, Some, None, Ok, Err, sym, ap, ap₂, ◌∙◌, arith, append-nil}
 use Rattle.std.specs.List.{range_with_len, prefix_len, cons_option}
 use Rattle.std.specs.Option.{option_map_or}
 use Rattle.std.proofs.lemmas.Bool.{ne_eqb}
@@ -15,18 +15,10 @@ use Rattle.mr_items.specs.Lines.{begins_line, fields, line_at}
 use Rattle.mr_items.specs.declared.GridFault.{GridFault}
 use Rattle.mr_kernels.specs.Scan.{line_end_in}
 use Rattle.mr_grid.specs.Reading.{rows_before, IsReadTo}
-use Rattle.mr_grid.proofs.Places.{places_below, places_more, places_split, passes, stops, within}
+use Rattle.mr_grid.proofs.Places.{negated, negated_not, or_true, places_below, places_more, places_split, passes, stops, within}
 
 abbrev pub has_fields : List ℕ → ℕ → Bool
 has_fields bytes place = nat_lt 0 (length (fields (line_at bytes place)))
-
-negated : (b : Bool) → not b ≡ true → b ≡ false
-negated true e = sym e
-negated false e = refl
-
-negated_not : (b : Bool) → not b ≡ false → b ≡ true
-negated_not true e = refl
-negated_not false e = sym e
 
 -- the rows of the text are those before a place and the others
 abbrev rows_from : List ℕ → ℕ → List ℕ
@@ -65,10 +57,6 @@ module _ (bytes : List ℕ) (at end next : ℕ) (inside : at < length bytes) (st
       let place : next - 1 ≡ at + prefix_len (λ b. not (b == 10)) (drop at bytes) = omega (arith, h, goes, line_ends) in
       let byte : (get_or bytes (next - 1) 0 == 10) ≡ true = negated_not (get_or bytes (next - 1) 0 == 10) (ap (λ k. not (get_or bytes k 0 == 10)) place ∙ stops (λ b. not (b == 10)) bytes at (omega (arith, h, goes, line_ends))) in
       ap (λ b. (next == 0) || b) byte ∙ or_true (next == 0)
-    where
-      or_true : (b : Bool) → (b || true) ≡ true
-      or_true true = refl
-      or_true false = refl
 
   lines_next : places_below (begins_line bytes) next ≡ places_below (begins_line bytes) at ++ at ∷ []
   lines_next = places_more (begins_line bytes) at next (omega (arith, later, goes, inside)) starts line_nowhere

@@ -1,8 +1,10 @@
 -- Fields of a line, from a place on.
-use Rattle.std.specs.Prelude.{ℕ, ◌+◌, ℤ, Bool, not, is_none, if◌then◌else◌, List, drop, find, filter_map, Option}
+use Rattle.std.specs.Prelude.{ℕ, ◌+◌, ℤ, Bool, not, is_none, if◌then◌else◌, List, drop, find, filter_map, Option, Some, None}
+use Rattle.std.specs.Str.Parse.{digits_value}
 use Rattle.std.specs.List.{prefix_len}
 use Rattle.mr_items.specs.Grid.{element_of}
 use Rattle.mr_items.specs.Lines.{is_field_byte}
+use Rattle.mr_items.specs.Number.{is_numeral_up_to}
 use Rattle.mr_items.specs.Runs.{run_at, run_places, runs}
 
 -- a byte of the field, or else of what stands between fields
@@ -12,6 +14,10 @@ stays of_field byte = if of_field then is_field_byte byte else not (is_field_byt
 -- where such bytes end, from a place on
 abbrev pub run_end_in : Bool → List ℕ → ℕ → ℕ
 run_end_in of_field line from = from + prefix_len (stays of_field) (drop from line)
+
+-- the number of some digits and nothing else, where it is at most 2147483647
+abbrev pub numeral_of : List ℕ → Option ℕ
+numeral_of text = if is_numeral_up_to 2147483647 text then Some (digits_value 10 text) else None
 
 -- the first field that is no element, of a line whose byte 13 was dropped
 abbrev pub stray_of : List ℕ → Option ℕ

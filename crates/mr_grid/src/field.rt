@@ -1,12 +1,11 @@
-ghost use Rattle.std.specs.Prelude.{◌≡◌, ◌≤◌, ◌<◌, ◌+◌, min, length, drop, slice_index, true, Some, None, if◌then◌else◌};
+ghost use Rattle.std.specs.Prelude.{◌≡◌, ◌≤◌, ◌<◌, ◌+◌, min, length, drop, slice_index, true};
 ghost use Rattle.std.specs.Char.{is_ascii_digit};
 ghost use Rattle.std.specs.List.{prefix_len};
 ghost use Rattle.std.specs.Str.Parse.{digits_value};
 ghost use Rattle.mr_items.specs.Grid.{element_of};
 ghost use Rattle.mr_items.specs.Lines.{is_field_byte};
-ghost use Rattle.mr_items.specs.Number.{is_numeral_up_to};
 ghost use Rattle.mr_items.specs.Runs.{run_at};
-ghost use Rattle.mr_grid.specs.Fields.{stays, run_end_in};
+ghost use Rattle.mr_grid.specs.Fields.{numeral_of, run_end_in};
 
 /// The largest magnitude of an element.
 const MOST: u64 = 2147483647;
@@ -46,6 +45,7 @@ pub fn run_end(line: &[u8], from: usize, of_field: bool) -> usize
     line.len()
 }
 
+/// The digits from a place on.
 #[inline(always)]
 fn digits_at(line: &[u8], from: usize) -> Digits
     requires { from ≤ length line.now }
@@ -70,7 +70,7 @@ fn digits_at(line: &[u8], from: usize) -> Digits
 fn natural_at(line: &[u8], from: usize) -> (Option<u32>, usize)
     requires { from ≤ length line.now }
     ensures end { result.1 ≡ run_end_in true line.now from }
-    ensures number { result.0 ≡ (if is_numeral_up_to 2147483647 (run_at is_field_byte line.now from) then Some (digits_value 10 (run_at is_field_byte line.now from)) else None) }
+    ensures number { result.0 ≡ numeral_of (run_at is_field_byte line.now from) }
 {
     let digits = digits_at(line, from);
     let end = run_end(line, digits.end, true);

@@ -1,9 +1,8 @@
-ghost use Rattle.std.specs.Prelude.{◌≡◌, ◌≤◌, ◌<◌, ◌+◌, ◌^◌, ℕ, ◌==◌, not, nat_lt, length, Some, IfOk, Ok, Err, if◌then◌else◌, option_map};
+ghost use Rattle.std.specs.Prelude.{◌≡◌, ◌≤◌, ◌<◌, ◌+◌, ◌^◌, ℕ, ◌==◌, length, Some, IfOk, Ok, Err, if◌then◌else◌};
 ghost use Rattle.mr_base.specs.declared.memory.Stop.TheVariants as Stop;
-ghost use Rattle.mr_items.specs.declared.GridFault.TheVariants as GridFault;
 ghost use Rattle.mr_items.specs.Grid.{grid_of};
 ghost use Rattle.mr_items.specs.Lines.{line_at};
-ghost use Rattle.mr_grid.specs.Reading.{IsReadTo};
+ghost use Rattle.mr_grid.specs.Reading.{line_fault, IsReadTo};
 
 use crate::grid::Grid;
 use crate::line::{Line, WIDEST, line_without_return, read_fields};
@@ -29,10 +28,10 @@ fn line_from(bytes: &[u8], at: usize) -> &[u8]
     &bytes[at..line_end(bytes, at)]
 }
 
-/// The fault of a line with a field, which begins at a place, in a grid with so many columns.
+/// The fault of a line with a field, which begins at a place, in a grid of so many columns.
 fn fault_of(line: Line, place: usize, columns: u32) -> Option<GridFault>
     requires { (field : ℕ) → line.fields ≤ 1024 → line.stray ≡ Some field → place + field < 2 ^ 64 }
-    ensures { result ≡ (if nat_lt 1024 line.fields then Some (GridFault.Wide place) else (if not (line.fields == columns) then Some (GridFault.Ragged place) else option_map (λ field. GridFault.Number (place + field)) line.stray)) }
+    ensures { result ≡ line_fault place line.fields line.stray columns }
 {
     if line.fields > WIDEST {
         return Some(GridFault::Wide(place as u64));
