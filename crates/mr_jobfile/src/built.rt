@@ -4,7 +4,7 @@ use mr_capacity::{CombinerKind, ContainerKind, JobKind, QueueKind};
 pub const BUILT_JOBS: [JobKind; 1] = [JobKind::WordCount];
 
 /// The containers that are built so far.
-pub const BUILT_CONTAINERS: [ContainerKind; 1] = [ContainerKind::Hash];
+pub const BUILT_CONTAINERS: [ContainerKind; 2] = [ContainerKind::Hash, ContainerKind::Array];
 
 /// The combiners that are built so far.
 pub const BUILT_COMBINERS: [CombinerKind; 12] = [

@@ -72,7 +72,7 @@ const FILES: [(&str, &str); 39] = [
     ),
     (
         "version = 1\njob = \"word_count\"\ncontainer = \"array\"\ncapacity = 1024\ncombiner = \"sum\"\n",
-        "bad container",
+        "pairing",
     ),
     (
         "version = 1\njob = \"word_count\"\ncontainer = \"common\"\ncapacity = 1024\ncombiner = \"sum\"\n",

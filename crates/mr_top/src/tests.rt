@@ -159,6 +159,37 @@ fn words_and_their_answers(rt: HostRuntime) -> Result<(), Fail> {
 }
 
 #[test]
+fn job_files_that_are_refused(rt: HostRuntime) -> Result<(), Fail> {
+    let alloc = rt.alloc();
+    let cases: [(&str, &str); 5] = [
+        ("version = 1\ncolor = 2\n", "fault: job unknown color\n"),
+        ("version = 1\n", "fault: job missing job\n"),
+        ("version =\n", "fault: job not toml\n"),
+        (
+            "version = 1\njob = \"word_count\"\ncontainer = \"hash\"\ncapacity = 17\ncombiner = \"sum\"\n",
+            "fault: job bad capacity\n",
+        ),
+        (
+            "version = 1\njob = \"word_count\"\ncontainer = \"array\"\ncapacity = 1024\ncombiner = \"sum\"\n",
+            "fault: job pairing\n",
+        ),
+    ];
+    for (job, line) in cases {
+        let mut shelf = shelf_with(alloc, job.as_bytes(), b"cat")?;
+        let (status, out, err) = ran(&rt, alloc, &["mapred", "W", "in"], &mut shelf, 1000)?;
+        assert!(rt; status == Status::Job, "{job}");
+        assert!(rt; out.bytes().is_empty());
+        assert!(rt; err.bytes() == line.as_bytes(), "{job}");
+    }
+    let mut shelf = MemoryShelf::new(alloc, 65536)?;
+    shelf.add_repeated("W", b' ', 65537)?;
+    let (status, _, err) = ran(&rt, alloc, &["mapred", "W", "in"], &mut shelf, 1000)?;
+    assert!(rt; status == Status::Job);
+    assert!(rt; err.bytes() == b"fault: job too long\n".as_slice());
+    Ok(())
+}
+
+#[test]
 fn calls_that_fail(rt: HostRuntime) -> Result<(), Fail> {
     let alloc = rt.alloc();
     let words = ["mapred", "W", "in"];
