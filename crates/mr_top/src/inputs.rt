@@ -85,9 +85,12 @@ fn take_input<H: Shelf>(
 ) -> Result<Taken, Refusal>
     ensures kept { H.contents shelf.new ≡ H.contents shelf.old }
     ensures later { H.count shelf.old ≤ H.count shelf.new }
-    ensures ok { IfOk result (λ taken. HasContent (H.contents shelf.old) name.now (λ bytes. (taken ≡ bytes) × (length bytes ≤ input_limit))) }
+    ensures ok { IfOk result (λ taken. HasContent (H.contents shelf.old) name.now (λ bytes. (taken ≡ bytes)
+        × (length bytes ≤ input_limit))) }
     ensures short { IfOk result (λ taken. length taken ≤ input_limit) }
-    ensures err { IfErr result (λ r. (next : Contents → List ℕ → Answer) → Refuses r (H.contents shelf.old) (λ content. input_answer number (content name.now) (next content)) (H.count shelf.old) (H.count shelf.new)) }
+    ensures err { IfErr result (λ r. (next : Contents → List ℕ → Answer) → Refuses r (H.contents shelf.old)
+        (λ content. input_answer number (content name.now) (next content)) (H.count shelf.old)
+        (H.count shelf.new)) }
     ensures behind { IfErr result IsBehindJob }
 {
     match read_all(alloc, shelf, name, 134217728) {
@@ -116,10 +119,12 @@ fn take_all<H: Shelf>(alloc: Global, shelf: &mut H, names: &[Word]) -> Result<Ve
     requires { length names.now ≤ 2 }
     ensures kept { H.contents shelf.new ≡ H.contents shelf.old }
     ensures later { H.count shelf.old ≤ H.count shelf.new }
-    ensures ok { IfOk result (λ taken. (next : List (List ℕ) → Answer) → IsAnswer (H.contents shelf.old) (λ content. inputs_answer content 1 names.now next) (next taken.items)) }
+    ensures ok { IfOk result (λ taken. (next : List (List ℕ) → Answer) → IsAnswer (H.contents shelf.old)
+        (λ content. inputs_answer content 1 names.now next) (next taken.items)) }
     ensures short { IfOk result (λ taken. All (λ bytes. length bytes ≤ input_limit) taken.items) }
     ensures count { IfOk result (λ taken. length taken.items ≡ length names.now) }
-    ensures err { IfErr result (λ r. (next : List (List ℕ) → Answer) → Refuses r (H.contents shelf.old) (λ content. inputs_answer content 1 names.now next) (H.count shelf.old) (H.count shelf.new)) }
+    ensures err { IfErr result (λ r. (next : List (List ℕ) → Answer) → Refuses r (H.contents shelf.old)
+        (λ content. inputs_answer content 1 names.now next) (H.count shelf.old) (H.count shelf.new)) }
     ensures behind { IfErr result IsBehindJob }
 {
     let mut inputs = Vec::new(alloc);
@@ -140,10 +145,14 @@ pub fn take_inputs<H: Shelf>(
     names: &[Word],
 ) -> Result<Vec<Taken>, Refusal>
     ensures later { H.count shelf.old ≤ H.count shelf.new }
-    ensures ok { IfOk result (λ taken. (next : List (List ℕ) → Answer) → IsAnswer (H.contents shelf.old) (λ content. counted_inputs kind (length names.now) (inputs_answer content 1 names.now next)) (next taken.items)) }
+    ensures ok { IfOk result (λ taken. (next : List (List ℕ) → Answer) → IsAnswer (H.contents shelf.old)
+        (λ content. counted_inputs kind (length names.now) (inputs_answer content 1 names.now next))
+        (next taken.items)) }
     ensures short { IfOk result (λ taken. All (λ bytes. length bytes ≤ input_limit) taken.items) }
     ensures count { IfOk result (λ taken. length taken.items ≡ inputs_wanted kind) }
-    ensures err { IfErr result (λ r. (next : List (List ℕ) → Answer) → Refuses r (H.contents shelf.old) (λ content. counted_inputs kind (length names.now) (inputs_answer content 1 names.now next)) (H.count shelf.old) (H.count shelf.new)) }
+    ensures err { IfErr result (λ r. (next : List (List ℕ) → Answer) → Refuses r (H.contents shelf.old)
+        (λ content. counted_inputs kind (length names.now) (inputs_answer content 1 names.now next))
+        (H.count shelf.old) (H.count shelf.new)) }
     ensures behind { IfErr result IsBehindJob }
 {
     let wanted = wanted(kind);

@@ -39,7 +39,9 @@ pub fn take_job<H: Shelf>(alloc: Global, shelf: &mut H, name: &str) -> Result<Jo
     ensures kept { H.contents shelf.new ≡ H.contents shelf.old }
     ensures later { H.count shelf.old ≤ H.count shelf.new }
     ensures ok { IfOk result (λ j. HasContent (H.contents shelf.old) name.now (λ bytes. job_of bytes ≡ Ok (seen j))) }
-    ensures err { IfErr result (λ r. (next : Contents → SeenJob → Answer) → Refuses r (H.contents shelf.old) (λ content. job_file_answer (content name.now) (next content)) (H.count shelf.old) (H.count shelf.new)) }
+    ensures err { IfErr result (λ r. (next : Contents → SeenJob → Answer) → Refuses r (H.contents shelf.old)
+        (λ content. job_file_answer (content name.now) (next content)) (H.count shelf.old)
+        (H.count shelf.new)) }
     ensures behind { IfErr result IsBehindWords }
     ensures started { IfErr result (λ r. IsJob r → H.is_started shelf.new ≡ true) }
     ensures named { is_some (H.contents shelf.old) ≡ true → H.is_started shelf.new ≡ true → H.started shelf.new ≡ name.now }

@@ -116,8 +116,12 @@ fn counted_by(alloc: Global, job: &Job, input: &[u8]) -> Result<Reduced<ByteKey>
 
 // The text of rows without a fault, or the refusal of their first fault.
 fn written_out(alloc: Global, reduced: Reduced<ByteKey>) -> Result<Text, Refusal>
-    ensures ok { IfOk result (λ text. (first_of reduced.faults.malformed reduced.faults.outside reduced.faults.twice reduced.faults.over ≡ None) × (text ≡ rows_text (λ k. k) reduced.rows)) }
-    ensures err { IfErr result (λ r. IsMemory r ⊎ IsSomeAnd (first_of reduced.faults.malformed reduced.faults.outside reduced.faults.twice reduced.faults.over) (λ f. RefusesBy r (outcome_answer shown_text (faulty f)))) }
+    ensures ok { IfOk result (λ text.
+        (first_of reduced.faults.malformed reduced.faults.outside reduced.faults.twice reduced.faults.over ≡ None)
+        × (text ≡ rows_text (λ k. k) reduced.rows)) }
+    ensures err { IfErr result (λ r. IsMemory r ⊎ IsSomeAnd
+        (first_of reduced.faults.malformed reduced.faults.outside reduced.faults.twice reduced.faults.over)
+        (λ f. RefusesBy r (outcome_answer shown_text (faulty f)))) }
 {
     let Reduced { rows, faults } = reduced;
     if let Some(fault) = faults.first() {

@@ -38,7 +38,8 @@ fn run_job<H: Shelf>(
 ) -> Result<Text, Refusal>
     ensures later { H.count shelf.old ≤ H.count shelf.new }
     ensures ok { IfOk result (λ text. IsAnswer (H.contents shelf.old) (run_answer (seen job.now) names.now) (done text)) }
-    ensures err { IfErr result (λ r. Refuses r (H.contents shelf.old) (run_answer (seen job.now) names.now) (H.count shelf.old) (H.count shelf.new)) }
+    ensures err { IfErr result (λ r. Refuses r (H.contents shelf.old) (run_answer (seen job.now) names.now)
+        (H.count shelf.old) (H.count shelf.new)) }
     ensures behind { IfErr result IsBehindJob }
 {
     match take_inputs(alloc, shelf, job.job, names) {
@@ -52,11 +53,14 @@ fn run_job<H: Shelf>(
 
 // Does what a command asks, up to the first write.
 fn commanded<H: Shelf>(alloc: Global, command: &Command, shelf: &mut H) -> Result<Text, Refusal>
-    ensures ok { IfOk result (λ text. IsAnswer (H.contents shelf.old) (λ content. form_answer content (asked command.now)) (done text)) }
-    ensures err { IfErr result (λ r. Refuses r (H.contents shelf.old) (λ content. form_answer content (asked command.now)) (H.count shelf.old) (H.count shelf.new)) }
+    ensures ok { IfOk result (λ text. IsAnswer (H.contents shelf.old) (λ content. form_answer content
+        (asked command.now)) (done text)) }
+    ensures err { IfErr result (λ r. Refuses r (H.contents shelf.old) (λ content. form_answer content
+        (asked command.now)) (H.count shelf.old) (H.count shelf.new)) }
     ensures behind { IfErr result IsBehindWords }
     ensures started { IfErr result (λ r. IsJob r → H.is_started shelf.new ≡ true) }
-    ensures named { IfErr result (λ r. IsJob r → is_some (H.contents shelf.old) ≡ true → H.started shelf.new ≡ command.now.job) }
+    ensures named { IfErr result (λ r. IsJob r → is_some (H.contents shelf.old) ≡ true
+        → H.started shelf.new ≡ command.now.job) }
 {
     let job = match take_job(alloc, shelf, command.job.as_str()) {
         Ok(job) => job,
@@ -77,12 +81,14 @@ fn commanded<H: Shelf>(alloc: Global, command: &Command, shelf: &mut H) -> Resul
 // Does what the words ask, up to the first write.
 fn judged<H: Shelf>(alloc: Global, words: &[Word], shelf: &mut H) -> Result<Text, Refusal>
     ensures ok { IfOk result (λ text. IsAnswer (H.contents shelf.old) (answer words.now) (done text)) }
-    ensures err { IfErr result (λ r. Refuses r (H.contents shelf.old) (answer words.now) (H.count shelf.old) (H.count shelf.new)) }
+    ensures err { IfErr result (λ r. Refuses r (H.contents shelf.old) (answer words.now) (H.count shelf.old)
+        (H.count shelf.new)) }
     ensures formed { IfOk result (λ text. is_some (built_form words.now) ≡ true) }
     ensures usage { IfErr result (λ r. IsUsage r → built_form words.now ≡ None) }
     ensures behind { IfErr result (λ r. built_form words.now ≡ None → IsUsage r ⊎ IsMemory r) }
     ensures started { IfErr result (λ r. IsJob r → H.is_started shelf.new ≡ true) }
-    ensures named { IfErr result (λ r. IsJob r → is_some (H.contents shelf.old) ≡ true → IfSome (built_form words.now) (λ f. H.started shelf.new ≡ f.job)) }
+    ensures named { IfErr result (λ r. IsJob r → is_some (H.contents shelf.old) ≡ true → IfSome
+        (built_form words.now) (λ f. H.started shelf.new ≡ f.job)) }
 {
     match read_command(alloc, words) {
         Ok(command) => match commanded(alloc, &command, shelf) {
@@ -96,7 +102,8 @@ fn judged<H: Shelf>(alloc: Global, words: &[Word], shelf: &mut H) -> Result<Text
 
 // Writes a text whole, and the line of the fault where that fails.
 fn written<O: Sink, E: Sink>(text: &Text, out: &mut O, err: &mut E) -> Status
-    ensures { Writes result text.now (O.held out.old) (O.held out.new) (O.count out.old) (O.count out.new) (E.held err.old) (E.held err.new) (E.count err.old) (E.count err.new) }
+    ensures { Writes result text.now (O.held out.old) (O.held out.new) (O.count out.old) (O.count out.new)
+        (E.held err.old) (E.held err.new) (E.count err.old) (E.count err.new) }
 {
     match put_all(out, text.as_bytes()) {
         Ok(()) => Status::Done,
@@ -125,7 +132,8 @@ pub fn run<R: Threads + Sync, H: Shelf, O: Sink, E: Sink, G: Gate>(
 ) -> Status
     // The answer of the definition, and what the output gained by it.
     ensures answers { Means result (H.contents shelf.old) words.now (O.held out.old) (O.held out.new) }
-    ensures lines { Tells result (H.contents shelf.old) words.now (E.held err.old) (E.held err.new) (E.count err.old) (E.count err.new) }
+    ensures lines { Tells result (H.contents shelf.old) words.now (E.held err.old) (E.held err.new)
+        (E.count err.old) (E.count err.new) }
 
     // The words alone decide on Usage, whatever the shelf tells.
     ensures usage { result ≡ Status.Usage → built_form words.now ≡ None }
@@ -133,10 +141,12 @@ pub fn run<R: Threads + Sync, H: Shelf, O: Sink, E: Sink, G: Gate>(
 
     // A refused job was the last name that was started.
     ensures job_started { result ≡ Status.Job → H.is_started shelf.new ≡ true }
-    ensures job_named { result ≡ Status.Job → is_some (H.contents shelf.old) ≡ true → IfSome (built_form words.now) (λ f. H.started shelf.new ≡ f.job) }
+    ensures job_named { result ≡ Status.Job → is_some (H.contents shelf.old) ≡ true → IfSome
+        (built_form words.now) (λ f. H.started shelf.new ≡ f.job) }
 
     // Faults of reading and writing have a cause.
-    ensures read { result ≡ Status.ReadFault → ReadCause (H.contents shelf.old) (answer words.now) (H.count shelf.old) (H.count shelf.new) }
+    ensures read { result ≡ Status.ReadFault → ReadCause (H.contents shelf.old) (answer words.now)
+        (H.count shelf.old) (H.count shelf.new) }
     ensures write { result ≡ Status.WriteFault → Rose (O.count out.old) (O.count out.new) }
 
     // Where the definition is done and no count rose, so is the run, or memory was wanted.
