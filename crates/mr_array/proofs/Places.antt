@@ -1,10 +1,10 @@
 -- Cells by place.
-use Rattle.std.proofs.Common.{◌≡◌, ◌≢◌, ℕ, zero, suc, ◌+◌, ◌<◌, ◌≤◌, ◌==◌, Bool, true, false, cond, nat_lt, List, [], ◌∷◌, ◌++◌, length, get_or, set, map, filter, replicate, Option, Some, None, is_some, Result, Ok, Err, OnOk, inl, inr, refl, sym, ap, subst, ◌∙◌, arith}
+use Rattle.std.proofs.Common.{◌≡◌, ◌≢◌, ℕ, zero, suc, ◌+◌, ◌<◌, ◌≤◌, ◌==◌, Bool, true, false, cond, List, [], ◌∷◌, ◌++◌, length, get_or, set, map, filter, replicate, Option, Some, None, is_some, Result, Ok, Err, OnOk, inl, inr, refl, sym, ap, subst, ◌∙◌, arith}
 use Rattle.std.specs.List.{IsDistinct, AllByRecursion, range_with_len}
 use Rattle.std.proofs.lemmas.List.{get_or-replicate, get_or_past, get_or-set_same, get_or-set_other, length-replicate}
 use Rattle.std.proofs.lemmas.List.FromFn.{get_or-range_with_len}
 use Rattle.std.proofs.lemmas.Bool.Decides.{eqb_tells}
-use Rattle.std.proofs.lemmas.Bool.{cases_lt, lt-ltb, ltb-true}
+use Rattle.std.proofs.lemmas.Bool.{cases_lt, lt-ltb, le-ltb}
 use Rattle.std.specs.Ordering.{eq_by_cmp, nat_cmp}
 use Rattle.std.specs.Cmp.{nat_cmp_total}
 use Rattle.std.specs.FinMap.{find, nat_cmp-IsAntisymmetric}
@@ -15,9 +15,6 @@ use Rattle.mr_container.specs.Part.{IsPart}
 use Rattle.mr_container.proofs.Emitted.{after_pair}
 use Rattle.mr_container.proofs.Entries.{same_tied, tied_same, part_of_distinct}
 use Rattle.mr_array.specs.Cells.{is_below, cell_in, filled, numbered}
-
-true_false : true ≡ false → ⊥
-true_false e = cc
 
 -- numbers that tie, and numbers that do not
 same_key : (x y : ℕ) → x ≡ y → eq_by_cmp nat_cmp x y ≡ true
@@ -33,10 +30,7 @@ pub below : (n k : ℕ) → k < n → is_below n k ≡ true
 below n k h = lt-ltb k n h
 
 pub not_below : (n k : ℕ) → n ≤ k → is_below n k ≡ false
-not_below n k h = elim (nat_lt k n) as (λ t. nat_lt k n ≡ t → t ≡ false) [
-  | true ↦ λ e. absurd (omega (arith, h, ltb-true k n e))
-  | false ↦ λ e. refl
-] refl
+not_below n k h = le-ltb k n h
 
 -- places with no cell
 pub none_filled : (C : Type 0) (n : ℕ) → filled (replicate {A = Option C} n None) ≡ 0

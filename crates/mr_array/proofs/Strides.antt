@@ -1,9 +1,9 @@
 -- How the places are read, part by part.
-use Rattle.std.proofs.Common.{◌≡◌, ◌≢◌, ℕ, zero, suc, ◌+◌, ◌-◌, ◌*◌, ◌/◌, ◌%◌, ◌<◌, ◌≤◌, ◌==◌, false, cond, List, [], ◌∷◌, length, get_or, filter, drop, Option, Some, None, inl, inr, refl, sym, ap, subst, ◌∙◌, arith, drop-cons, eq-eqb}
-use Rattle.std.proofs.lemmas.List.{get_or_default}
+use Rattle.std.proofs.Common.{◌≡◌, ◌≢◌, ℕ, zero, suc, ◌+◌, ◌-◌, ◌*◌, ◌/◌, ◌%◌, ◌<◌, ◌≤◌, ◌==◌, cond, List, [], ◌∷◌, length, get_or, filter, drop, Option, Some, None, inl, inr, refl, sym, ap, subst, ◌∙◌, arith, eq-eqb}
+use Rattle.std.proofs.lemmas.List.{get_or_default, drop_all, drop_more}
 use Rattle.std.proofs.lemmas.Bool.{cases_lt}
-use Rattle.std.proofs.lemmas.Bool.Decides.{eqb_tells}
 use Rattle.std.proofs.Math.Nat.{div-add-mod, mul-add-mod_self_left, mod-eq_of_lt, mod-eq-sub-mod, mod-lt}
+use Rattle.mr_container.proofs.Orders.{not_equal}
 use Rattle.mr_array.specs.Cells.{numbered}
 
 -- a place that is less than a stride further is of another part
@@ -25,28 +25,16 @@ other_part parts part place more some few is e = elim (cases_lt (part + more) pa
     left : parts ≤ part + more → part + more - parts < parts
     left h = omega (arith, h, few, subst (λ n. n < parts) is (mod-lt place (omega (arith, few))))
 
-not_equal : (a b : ℕ) → a ≢ b → (a == b) ≡ false
-not_equal a b h = elim (eqb_tells a b) [ inl same ↦ absurd (h same.1) | inr other ↦ other.0 ]
-
-drop_past : {X : Type 0} (xs : List X) (n : ℕ) → length xs ≤ n → drop n xs ≡ []
-drop_past [] zero h = refl
-drop_past [] (suc n) h = refl
-drop_past (x ∷ xs) zero h = absurd (omega (arith, h))
-drop_past (x ∷ xs) (suc n) h = drop_past xs n (omega (arith, h))
-
-one_more : (n : ℕ) → suc n ≡ n + 1
-one_more n = omega arith
-
 module _ {C : Type 0} (parts part : ℕ) (cells : List (Option C)) where
   -- the keys and cells of the part, from a place on
   abbrev rest : ℕ → List (ℕ × C)
   rest place = filter (λ e. e.0 % parts == part) (numbered place (drop place cells))
 
   pub rest_none : (place : ℕ) → length cells ≤ place → rest place ≡ []
-  rest_none place h = ap (λ l. filter (λ e. e.0 % parts == part) (numbered place l)) (drop_past cells place h)
+  rest_none place h = ap (λ l. filter (λ e. e.0 % parts == part) (numbered place l)) (drop_all place cells h)
 
   split : (place : ℕ) (x : Option C) → place < length cells → x ≡ get_or cells place x → drop place cells ≡ x ∷ drop (place + 1) cells
-  split place x l is = drop-cons cells place x l ∙ ap (λ y. y ∷ drop (suc place) cells) (sym is) ∙ ap (λ n. x ∷ drop n cells) (one_more place)
+  split place x l is = drop_more cells place x l ∙ ap (λ y. y ∷ drop (place + 1) cells) (sym is)
 
   -- a place with no cell, or of another part
   passed_empty : (place : ℕ) → place < length cells → None ≡ get_or cells place None → rest place ≡ rest (place + 1)

@@ -5,14 +5,16 @@ use Rattle.std.specs.List.Sorted.{IsPartitionPoint}
 use Rattle.std.specs.declared.cmp.Ordering.{Ordering}
 use Rattle.std.specs.declared.cmp.Ordering.TheVariants.{Less, Equal, Greater}
 use Rattle.std.specs.Ordering.{eq_by_cmp}
-use Rattle.std.specs.Cmp.{IsTotalOrder}
+use Rattle.std.specs.Cmp.{IsTotalOrder, tied_back}
 use Rattle.std.specs.FinMap.{IsAntisymmetric, find, is_sorted}
 use Rattle.std.specs.FinMap.Entries.{find-put, is_sorted-put}
 use Rattle.mr_defs.specs.Emission.{Emission, Pair}
 use Rattle.mr_defs.specs.Commutative.{IsCommutative, joined}
 use Rattle.mr_defs.specs.Stands.{Noted, StandsFor}
 use Rattle.mr_container.proofs.Emitted.{after_pair}
-use Rattle.mr_container.proofs.Places.{put_here, find_here, put_gap, find_gap}
+use Rattle.mr_container.proofs.Entries.{find_there, find_changed}
+use Rattle.mr_container.proofs.Parts.{sorted_distinct}
+use Rattle.mr_container.proofs.Places.{put_here, put_gap, find_gap}
 
 module _ {K C : Type 0} {R : K → K → Ordering} (o : IsTotalOrder R) (entries : List (K × C)) (sorted : T (is_sorted R entries)) where
   pub sorted_set : (k : K) (v : C) (i : ℕ) (e : K × C) → i < length entries → e ≡ get_or entries i e → R e.0 k ≡ Equal → T (is_sorted R (set entries i (e.0, v)))
@@ -25,11 +27,10 @@ module _ {K C : Type 0} {R : K → K → Ordering} (o : IsTotalOrder R) (entries
     pub emitted_here : (k : K) (v : V) (i : ℕ) (e : K × C) (new : C) → i < length entries → e ≡ get_or entries i e → R e.0 k ≡ Equal → new ≡ merged e.1 (unit v)
         → StandsFor R (λ _. true) unit merged (λ q. find R q (set entries i (e.0, new))) number noted (es ++ Pair k v ∷ [])
     emitted_here k v i e new p is t n =
-        let there : find R k entries ≡ Some e.1 = find_here o k entries i e sorted p is t in
+        let back = tied_back o e.0 k t in
         after_pair o one (λ _. true) unit laws (λ q. find R q entries) number noted es was (λ q. find R q (set entries i (e.0, new))) number k v refl
-        (λ q. ap (find R q) (sym (put_here o k new entries i e sorted p is t)) ∙ find-put R o q k new entries
-        ∙ ap (λ x. cond (eq_by_cmp R q k) x (find R q entries)) (ap Some n ∙ ap (λ x. joined merged x (Some (unit v))) (sym there)))
-        (ap (λ x. cond (is_some x) number (number + 1)) (sym there))
+        (find_changed o one merged entries k (unit v) new i e (sorted_distinct R entries sorted) p is back n)
+        (ap (λ x. cond (is_some x) number (number + 1)) (sym (find_there o one entries k i e (sorted_distinct R entries sorted) p is back)))
 
     pub emitted_gap : (k : K) (v : V) (i : ℕ) (new : C) → i ≤ length entries → IsPartitionPoint (λ e. R e.0 k ≡ Less) (λ e. R e.0 k ≡ Greater) entries i → new ≡ unit v
         → StandsFor R (λ _. true) unit merged (λ q. find R q (insert entries i (k, new))) (number + 1) noted (es ++ Pair k v ∷ [])

@@ -6,6 +6,7 @@ use Rattle.std.specs.Ordering.{eq_by_cmp, is_eq, nat_cmp}
 use Rattle.std.specs.Cmp.{IsTotalOrder, tied_itself, nat_cmp_total}
 use Rattle.std.specs.FinMap.{IsAntisymmetric, nat_cmp-IsAntisymmetric}
 use Rattle.std.proofs.lemmas.List.Elements.{filter_map-append}
+use Rattle.std.proofs.lemmas.Bool.{true≢false}
 use Rattle.mr_defs.specs.Emission.{Emission, Pair, TooLarge, Malformed}
 use Rattle.mr_defs.specs.Commutative.{IsCommutative, joined, joined-none, joined_by-push}
 use Rattle.mr_defs.specs.Keyed.{at, ascending, pair_key, any_key, large_key, malformed_offset, value_at, lesser}
@@ -15,9 +16,6 @@ use Rattle.mr_defs.proofs.Lesser.{lesser_commutative}
 use Rattle.mr_defs.proofs.Readings.{passing, malformed_read, outside_read, large_read}
 use Rattle.mr_container.proofs.Orders.{is_Equal}
 use Rattle.mr_container.proofs.Counting.{is_some-cell_of, cells_of-push, cells_of-push_outside}
-
-true_false : true ≡ false → ⊥
-true_false e = cc
 
 module _ {K V C : Type 0} {R : K → K → Ordering} (inside : K → Bool) (unit : V → C) (merged : C → C → C) where
   pub stands_empty : (cell_at : K → Option C) (cells : ℕ) (noted : Noted K) → ((q : K) → cell_at q ≡ None) → cells ≡ 0
@@ -132,7 +130,7 @@ module _ {K V : Type 0} {R : K → K → Ordering} (o : IsTotalOrder R) (one : I
     }
       where
         none : (q : K) → inside q ≡ true → (t : Bool) → eq_by_cmp R q k ≡ t → at R (Pair k v ∷ []) q ≡ []
-        none q i true e = absurd (true_false (sym i ∙ ap inside (one q k (is_Equal (R q k) e)) ∙ h))
+        none q i true e = absurd (true≢false (sym i ∙ ap inside (one q k (is_Equal (R q k) e)) ∙ h))
         none q i false e = ap (λ t. cons_option (if t then Some v else None) []) e
 
     pub after_large : (k : K) → inside k ≡ true

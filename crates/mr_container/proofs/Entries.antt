@@ -1,5 +1,5 @@
 -- Entries with distinct keys, in any order.
-use Rattle.std.proofs.Common.{◌≡◌, ℕ, zero, suc, ◌<◌, ◌==◌, Bool, true, false, cond, List, [], ◌∷◌, ◌++◌, length, get_or, set, map, filter, Option, Some, None, refl, sym, ap, ◌∙◌, arith}
+use Rattle.std.proofs.Common.{◌≡◌, ℕ, zero, suc, ◌<◌, ◌==◌, Bool, true, false, cond, List, [], ◌∷◌, ◌++◌, length, get_or, set, map, filter, Some, None, refl, sym, ap, ◌∙◌, arith}
 use Rattle.std.specs.List.{IsDistinct, AllByRecursion}
 use Rattle.std.specs.declared.cmp.Ordering.{Ordering}
 use Rattle.std.specs.declared.cmp.Ordering.TheVariants.{Equal}
@@ -9,12 +9,10 @@ use Rattle.std.specs.FinMap.{IsAntisymmetric, find}
 use Rattle.std.specs.FinMap.Entries.{find-append, find-where_key}
 use Rattle.std.proofs.lemmas.Map.Keys.{IsDistinct-head, IsDistinct-tail}
 use Rattle.std.proofs.lemmas.Map.Made.{IsDistinct-keys_filter}
+use Rattle.std.proofs.lemmas.Bool.{true≢false}
 use Rattle.mr_defs.specs.Commutative.{joined}
 use Rattle.mr_container.specs.Part.{IsPart}
 use Rattle.mr_container.proofs.Orders.{is_Equal}
-
-true_false : true ≡ false → ⊥
-true_false e = cc
 
 -- two tests that are not both met, in either order
 swapped : {A : Type 0} (a b : Bool) (x y z : A) → (a ≡ true → b ≡ true → ⊥) → cond a x (cond b y z) ≡ cond b y (cond a x z)
@@ -34,7 +32,7 @@ module _ {K : Type 0} {R : K → K → Ordering} (one : IsAntisymmetric R) where
 module _ {K : Type 0} {R : K → K → Ordering} (o : IsTotalOrder R) (one : IsAntisymmetric R) where
   turned : (x y : K) → eq_by_cmp R x y ≡ false → eq_by_cmp R y x ≡ false
   turned x y h = elim (eq_by_cmp R y x) as (λ t. eq_by_cmp R y x ≡ t → t ≡ false) [
-    | true ↦ λ e. absurd (true_false (sym (same_tied o x y (sym (tied_same one y x e))) ∙ h))
+    | true ↦ λ e. absurd (true≢false (sym (same_tied o x y (sym (tied_same one y x e))) ∙ h))
     | false ↦ λ e. refl
   ] refl
 
@@ -76,7 +74,7 @@ module _ {K C : Type 0} {R : K → K → Ordering} (o : IsTotalOrder R) (one : I
   find_set q v (p ∷ ps) (suc i) e h l is =
       ap (cond (eq_by_cmp R q p.0) (Some p.1)) (find_set q v ps i e (IsDistinct-tail _ _ _ h) (omega (arith, l)) is)
       ∙ swapped (eq_by_cmp R q p.0) (eq_by_cmp R q e.0) (Some p.1) (Some v) (find R q ps)
-      (λ a b. true_false (sym (same_tied o p.0 e.0 (sym (tied_same one q p.0 a) ∙ tied_same one q e.0 b)) ∙ head_differs R p.0 ps i e (IsDistinct-head _ _ _ h) (omega (arith, l)) is))
+      (λ a b. true≢false (sym (same_tied o p.0 e.0 (sym (tied_same one q p.0 a) ∙ tied_same one q e.0 b)) ∙ head_differs R p.0 ps i e (IsDistinct-head _ _ _ h) (omega (arith, l)) is))
 
   -- an entry whose key ties with this one
   pub find_there : (ps : List (K × C)) (k : K) (i : ℕ) (e : K × C) → IsDistinct (eq_by_cmp R) (map (λ p. p.0) ps) → i < length ps → e ≡ get_or ps i e → R k e.0 ≡ Equal → find R k ps ≡ Some e.1

@@ -1,6 +1,7 @@
 -- The entries of one part.
-use Rattle.std.proofs.Common.{◌≡◌, ℕ, zero, suc, ◌+◌, ◌<◌, ◌==◌, Bool, cond, List, [], ◌∷◌, length, get_or, drop, map, sym, ap, ◌∙◌, T, drop-cons, add-one}
-use Rattle.std.specs.List.{filter, AllByRecursion}
+use Rattle.std.proofs.Common.{◌≡◌, ℕ, zero, suc, ◌==◌, Bool, List, [], ◌∷◌, drop, map, T}
+use Rattle.std.specs.List.{filter, AllByRecursion, IsDistinct}
+use Rattle.std.specs.Ordering.{eq_by_cmp}
 use Rattle.std.specs.declared.cmp.Ordering.{Ordering}
 use Rattle.std.specs.declared.cmp.Ordering.TheVariants.{Less}
 use Rattle.std.specs.FinMap.{IsAntisymmetric, find, is_sorted}
@@ -30,9 +31,8 @@ module _ {K C : Type 0} (R : K → K → Ordering) where
   pub part_ascends : (p : K → Bool) (n : ℕ) (es : List (K × C)) → T (is_sorted R es) → IsStrictlySortedBy R (map (λ e. e.0) (filter (λ e. p e.0) (drop n es)))
   part_ascends p n es h = strictly _ (is_sorted-where_key R p (drop n es) (sorted_drop n es h))
 
-  -- the entry at a place, where the reading is there
-  pub filter_step : (p : K × C → Bool) (es : List (K × C)) (i : ℕ) (e : K × C) → i < length es → e ≡ get_or es i e → filter p (drop i es) ≡ cond (p e) (e ∷ filter p (drop (i + 1) es)) (filter p (drop (i + 1) es))
-  filter_step p es i e h is = rw add-one (ap (filter p) (drop-cons es i e h ∙ ap (λ y. y ∷ drop (suc i) es) (sym is)))
+  pub sorted_distinct : (es : List (K × C)) → T (is_sorted R es) → IsDistinct (eq_by_cmp R) (map (λ e. e.0) es)
+  sorted_distinct es h = IsDistinct-from_sorted R _ (strictly es h)
 
   pub part_of_sorted : IsAntisymmetric R → (part_of : K → ℕ) (part : ℕ) (es : List (K × C)) → T (is_sorted R es) → IsPart R (λ k. find R k es) part_of part (filter (λ e. part_of e.0 == part) es)
-  part_of_sorted one part_of part es h = part_of_distinct R one part_of part es (IsDistinct-from_sorted R _ (strictly es h))
+  part_of_sorted one part_of part es h = part_of_distinct R one part_of part es (sorted_distinct es h)

@@ -43,16 +43,6 @@ module _ {K C : Type 0} {R : K → K → Ordering} (o : IsTotalOrder R) where
       let later : R k x.0 ≡ Greater = o.congr k e.0 x.0 (tied_back o e.0 k t) ∙ o.antisymm e.0 x.0 ∙ ap ordering_reverse before in
       ap (λ r. by_order r ((k, v) ∷ x ∷ es) ((x.0, v) ∷ es) (x ∷ put R k v es)) later ∙ ap (λ l. x ∷ l) (put_here k v es i e (both_second _ _ h) (omega arith) is t)
 
-  pub find_here : (k : K) (es : List (K × C)) (i : ℕ) (e : K × C) → T (is_sorted R es) → i < length es → e ≡ get_or es i e → R e.0 k ≡ Equal → find R k es ≡ Some e.1
-  find_here k [] i e h p is t = absurd (omega (arith, p))
-  find_here k (x ∷ es) zero e h p is t =
-      let here : R k x.0 ≡ Equal = subst (λ y. R k y ≡ Equal) (ap (λ y. y.0) is) (tied_back o e.0 k t) in
-      ap (λ r. cond (is_eq r) (Some x.1) (find R k es)) here ∙ ap (λ y. Some y.1) (sym is)
-  find_here k (x ∷ es) (suc i) e h p is t =
-      let before : R x.0 e.0 ≡ Less = ap (λ y. R x.0 y.0) is ∙ below_place x.0 es i e (both_first _ _ h) (omega arith) in
-      let later : R k x.0 ≡ Greater = o.congr k e.0 x.0 (tied_back o e.0 k t) ∙ o.antisymm e.0 x.0 ∙ ap ordering_reverse before in
-      ap (λ r. cond (is_eq r) (Some x.1) (find R k es)) later ∙ find_here k es i e (both_second _ _ h) (omega arith) is t
-
   -- the gap of a key, less what is before it
   gap_tail : (k : K) (x : K × C) (es : List (K × C)) (i : ℕ) → IsPartitionPoint (λ e. R e.0 k ≡ Less) (λ e. R e.0 k ≡ Greater) (x ∷ es) (suc i) → IsPartitionPoint (λ e. R e.0 k ≡ Less) (λ e. R e.0 k ≡ Greater) es i
   gap_tail k x es i g = (λ j d p q. g.0 (suc j) d (omega arith) (omega arith), λ j d p q. g.1 (suc j) d (omega arith) (omega arith))

@@ -1,9 +1,9 @@
 -- Entries, and how the index finds them.
-use Rattle.std.proofs.Common.{◌≡◌, ◌≢◌, ℕ, ◌+◌, ◌-◌, ◌<◌, ◌≤◌, Bool, true, false, cond, ◌&&◌, List, [], ◌∷◌, ◌++◌, length, get_or, set, map, take, Some, None, is_some, Result, Ok, Err, OnOk, OnErr, inl, inr, refl, sym, ap, subst, ◌∙◌, arith}
-use Rattle.std.specs.List.{IsDistinct, list_any, list_all}
+use Rattle.std.proofs.Common.{◌≡◌, ◌≢◌, ℕ, ◌+◌, ◌-◌, ◌<◌, ◌≤◌, Bool, cond, List, [], ◌∷◌, ◌++◌, length, get_or, set, map, take, Some, None, is_some, Result, Ok, Err, OnOk, OnErr, inl, inr, refl, sym, ap, subst, ◌∙◌, arith}
+use Rattle.std.specs.List.{IsDistinct, list_any}
 use Rattle.std.proofs.lemmas.Cmp.{eq_by_cmp_equiv}
 use Rattle.std.specs.FinMap.Entries.{is_some-find}
-use Rattle.std.proofs.lemmas.List.{map-set, map-append, length-map, get_or-map, get_or_default, get_or_read_under, take_more, set-get_or}
+use Rattle.std.proofs.lemmas.List.{map-set, map-append, length-map, get_or-map, get_or_default, get_or_read_under, take_more}
 use Rattle.std.proofs.Math.Seq.{map-set_same}
 use Rattle.std.proofs.lemmas.Map.Keys.{IsDistinct-push}
 use Rattle.std.proofs.lemmas.Bool.{cases_lt}
@@ -145,22 +145,6 @@ pub hashed_push : {K C : Type 0} (hash_of : K → ℕ) (es : List (Entry K C)) (
 hashed_push hash_of es e was is =
     map-append (λ x. x.hash) es (e ∷ []) ∙ ap (λ l. l ++ e.hash ∷ []) was ∙ ap (λ h. map hash_of (keys_of es) ++ h ∷ []) is
     ∙ sym (ap (map hash_of) (map-append (λ x. x.key) es (e ∷ [])) ∙ map-append hash_of (keys_of es) (e.key ∷ []))
-
--- the entry with its cell as it was
-pub same_again : {K C : Type 0} (es : List (Entry K C)) (i : ℕ) (e : Entry K C) (new : C) → e ≡ get_or es i e → new ≡ e.cell → set es i (record { hash = e.hash; key = e.key; cell = new }) ≡ es
-same_again es i e new is same = ap (λ c. set es i (record { hash = e.hash; key = e.key; cell = c })) same ∙ ap (set es i) is ∙ set-get_or es i e
-
-pub same_if_err : {K C A E : Type 0} (P : List (Entry K C) → Type 0) (r : Result A E) (es : List (Entry K C)) (i : ℕ) (e : Entry K C) (new : C) → e ≡ get_or es i e → OnErr r (new ≡ e.cell) → P es → OnErr r (P (set es i (record { hash = e.hash; key = e.key; cell = new })))
-same_if_err P (Ok a) es i e new is same p = tt
-same_if_err P (Err x) es i e new is same p = subst P (sym (same_again es i e new is same)) p
-
--- what holds of all keys and of the key of one entry more
-pub all_keys_pushed : {K C : Type 0} (p : K → Bool) (es : List (Entry K C)) (e : Entry K C) → p e.key ≡ true → list_all p (keys_of es) ≡ true → list_all p (keys_of (es ++ e ∷ [])) ≡ true
-all_keys_pushed p [] e h all = ap (λ t. t && true) h
-all_keys_pushed p (x ∷ es) e h all = elim (p x.key) as (λ t. (t && list_all p (keys_of es)) ≡ true → (t && list_all p (keys_of (es ++ e ∷ []))) ≡ true) [
-  | true ↦ λ f. all_keys_pushed p es e h f
-  | false ↦ λ f. f
-] all
 
 -- what follows from what an Ok says, and what holds anyway
 pub on_ok : {A E P Q : Type 0} → (r : Result A E) → OnOk r P → (P → Q) → OnOk r Q

@@ -1,11 +1,11 @@
 -- How the tables are read, part by part.
-use Rattle.std.proofs.Common.{◌≡◌, ◌≢◌, ℕ, zero, suc, ◌+◌, ◌-◌, ◌%◌, ◌<◌, ◌≤◌, ◌==◌, Bool, true, false, cond, T, List, [], ◌∷◌, ◌++◌, length, get_or, filter, flat_map, drop, inl, inr, refl, sym, ap, subst, ◌∙◌, arith, drop-cons}
+use Rattle.std.proofs.Common.{◌≡◌, ◌≢◌, ℕ, zero, suc, ◌+◌, ◌-◌, ◌%◌, ◌<◌, ◌≤◌, ◌==◌, Bool, true, cond, T, List, [], ◌∷◌, ◌++◌, length, get_or, filter, flat_map, drop, inl, inr, refl, sym, ap, subst, ◌∙◌, arith}
 use Rattle.std.specs.List.{list_all}
 use Rattle.std.proofs.lemmas.Bool.{cases_lt, eqb-true, eq-eqb}
-use Rattle.std.proofs.lemmas.Bool.Decides.{eqb_tells}
-use Rattle.std.proofs.lemmas.List.{get_or_past, length-map}
+use Rattle.std.proofs.lemmas.List.{drop_all, drop_more, get_or_past, length-map}
 use Rattle.std.proofs.lemmas.List.Elements.{filter-append}
 use Rattle.std.proofs.Math.Nat.{mod-mod_of_dvd, dvd_of_mod-eq-zero}
+use Rattle.mr_container.proofs.Orders.{not_equal}
 use Rattle.mr_hash.specs.declared.entry.Entry.{Entry}
 use Rattle.mr_hash.specs.Pairs.{pairs_of, keys_of}
 use Rattle.mr_hash.specs.Tables.{table_of, is_spread, pairs_from}
@@ -21,48 +21,29 @@ not_reached stride parts part bucket table whole even is h e = h (
     ∙ ap (λ t. t % stride) e
     )
 
-not_equal : (a b : ℕ) → a ≢ b → (a == b) ≡ false
-not_equal a b h = elim (eqb_tells a b) [ inl same ↦ absurd (h same.1) | inr other ↦ other.0 ]
-
-drop_past : {X : Type 0} (xs : List X) (n : ℕ) → length xs ≤ n → drop n xs ≡ []
-drop_past [] n h = drop_none n
-  where
-    drop_none : {X : Type 0} (n : ℕ) → drop {A = X} n [] ≡ []
-    drop_none zero = refl
-    drop_none (suc n) = refl
-drop_past (x ∷ xs) zero h = absurd (omega (arith, h))
-drop_past (x ∷ xs) (suc n) h = drop_past xs n (omega (arith, h))
-
-one_more : (n : ℕ) → suc n ≡ n + 1
-one_more n = omega arith
-
 module _ {K C : Type 0} (tables : List (List (Entry K C))) where
   -- the entry at a place is the next
   entry_next : (table place : ℕ) (es : List (Entry K C)) (e : Entry K C) → es ≡ get_or tables table [] → place < length es → e ≡ get_or es place e → pairs_from table place tables ≡ (e.key, e.cell) ∷ pairs_from table (place + 1) tables
   entry_next table place es e is l there =
       ap (λ x. drop place (pairs_of x) ++ flat_map pairs_of (drop (table + 1) tables)) (sym is)
       ∙ ap (λ l. l ++ flat_map pairs_of (drop (table + 1) tables))
-      (drop-cons (pairs_of es) place (e.key, e.cell) (subst (λ m. place < m) (sym (length-map es (λ x. (x.key, x.cell)))) l)
-      ∙ ap (λ p. p ∷ drop (suc place) (pairs_of es)) (pair_there es place (e.key, e.cell) e l ∙ sym (ap (λ x. (x.key, x.cell)) there))
-      ∙ ap (λ m. (e.key, e.cell) ∷ drop m (pairs_of es)) (one_more place))
+      (drop_more (pairs_of es) place (e.key, e.cell) (subst (λ m. place < m) (sym (length-map es (λ x. (x.key, x.cell)))) l)
+      ∙ ap (λ p. p ∷ drop (place + 1) (pairs_of es)) (pair_there es place (e.key, e.cell) e l ∙ sym (ap (λ x. (x.key, x.cell)) there)))
       ∙ ap (λ x. (e.key, e.cell) ∷ (drop (place + 1) (pairs_of x) ++ flat_map pairs_of (drop (table + 1) tables))) is
 
   -- a table of which nothing is left
   table_read : (table place : ℕ) (es : List (Entry K C)) → es ≡ get_or tables table [] → length es ≤ place → pairs_from table place tables ≡ flat_map pairs_of (drop (table + 1) tables)
   table_read table place es is h = ap (λ l. l ++ flat_map pairs_of (drop (table + 1) tables))
-      (ap (λ x. drop place (pairs_of x)) (sym is) ∙ drop_past (pairs_of es) place (subst (λ m. m ≤ place) (sym (length-map es (λ x. (x.key, x.cell)))) h))
+      (ap (λ x. drop place (pairs_of x)) (sym is) ∙ drop_all place (pairs_of es) (subst (λ m. m ≤ place) (sym (length-map es (λ x. (x.key, x.cell)))) h))
 
   -- from the beginning of a table on
   table_begun : (table : ℕ) → pairs_from table 0 tables ≡ flat_map pairs_of (drop table tables)
   table_begun table = elim (cases_lt table (length tables)) [
-    | inl h ↦ ap (λ m. flat_map pairs_of (get_or tables table [] ∷ drop m tables)) (sym (one_more table)) ∙ ap (flat_map pairs_of) (sym (drop-cons tables table [] h))
+    | inl h ↦ ap (flat_map pairs_of) (sym (drop_more tables table [] h))
     | inr h ↦
         ap (λ es. pairs_of es ++ flat_map pairs_of (drop (table + 1) tables)) (get_or_past tables table [] h)
-        ∙ ap (flat_map pairs_of) (drop_past tables (table + 1) (omega (arith, h)) ∙ sym (drop_past tables table h))
+        ∙ ap (flat_map pairs_of) (drop_all (table + 1) tables (omega (arith, h)) ∙ sym (drop_all table tables h))
   ]
-
-  pub all_read : (table place : ℕ) → length tables ≤ table → pairs_from table place tables ≡ []
-  all_read table place h = table_read table place [] (sym (get_or_past tables table [] h)) (omega arith) ∙ ap (flat_map pairs_of) (drop_past tables (table + 1) (omega (arith, h)))
 
   module _ (hash_of : K → ℕ) (n parts part : ℕ) where
     abbrev wanted : K × C → Bool
@@ -85,15 +66,15 @@ module _ {K C : Type 0} (tables : List (List (Entry K C))) where
     skipped s (suc count) from none =
         elim (cases_lt from (length tables)) [
           | inl h ↦
-              ap (λ l. filter wanted (flat_map pairs_of l)) (drop-cons tables from [] h)
-              ∙ filter-append wanted (pairs_of (get_or tables from [])) (flat_map pairs_of (drop (suc from) tables))
-              ∙ ap (λ l. l ++ filter wanted (flat_map pairs_of (drop (suc from) tables))) (none_wanted from (λ bucket is. none bucket (omega (arith, is)) (omega (arith, is))) (get_or tables from []) (spread_at hash_of n tables 0 from from (omega arith) s))
-          | inr h ↦ ap (λ l. filter wanted (flat_map pairs_of l)) (drop_past tables from h ∙ sym (drop_past tables (suc from) (omega (arith, h))))
+              ap (λ l. filter wanted (flat_map pairs_of l)) (drop_more tables from [] h)
+              ∙ filter-append wanted (pairs_of (get_or tables from [])) (flat_map pairs_of (drop (from + 1) tables))
+              ∙ ap (λ l. l ++ filter wanted (flat_map pairs_of (drop (from + 1) tables))) (none_wanted from (λ bucket is. none bucket (omega (arith, is)) (omega (arith, is))) (get_or tables from []) (spread_at hash_of n tables 0 from from (omega arith) s))
+          | inr h ↦ ap (λ l. filter wanted (flat_map pairs_of l)) (drop_all from tables h ∙ sym (drop_all (from + 1) tables (omega (arith, h))))
         ]
-        ∙ skipped s count (suc from) (λ bucket above below. none bucket (omega (arith, above)) (omega (arith, below)))
+        ∙ skipped s count (from + 1) (λ bucket above below. none bucket (omega (arith, above)) (omega (arith, below)))
         ∙ ap (λ m. filter wanted (flat_map pairs_of (drop m tables))) same
       where
-        same : suc from + count ≡ from + suc count
+        same : (from + 1) + count ≡ from + suc count
         same = omega arith
 
     skipped_to : T (is_spread hash_of n 0 tables) → (from to : ℕ) → from ≤ to → ((bucket : ℕ) → from ≤ bucket % 64 → bucket % 64 < to → bucket % parts ≢ part)

@@ -6,7 +6,7 @@ use Rattle.std.specs.declared.cmp.Ordering.{Ordering}
 use Rattle.std.specs.Ordering.{eq_by_cmp}
 use Rattle.std.specs.Cmp.{IsTotalOrder}
 use Rattle.std.specs.FinMap.{IsAntisymmetric, find}
-use Rattle.std.proofs.lemmas.Bool.{cases_lt, eqb-true, eq-eqb}
+use Rattle.std.proofs.lemmas.Bool.{true≢false, cases_lt, eqb-true, eq-eqb}
 use Rattle.std.proofs.lemmas.Bool.Decides.{eqb_tells}
 use Rattle.std.proofs.Math.Seq.{map-set_same}
 use Rattle.std.proofs.lemmas.List.{map-append, map-set, length-map, get_or-map, get_or_past, get_or-replicate, length-replicate, get_or-set_same, get_or-set_other}
@@ -22,9 +22,6 @@ use Rattle.mr_hash.specs.Pairs.{pairs_of, keys_of}
 use Rattle.mr_hash.specs.Tables.{table_of, is_spread, cell_in}
 use Rattle.mr_hash.proofs.Finding.{distinct_none, keys_of_pairs}
 
-true_false : true ≡ false → ⊥
-true_false e = cc
-
 pub first_true : (a b : Bool) → (a && b) ≡ true → a ≡ true
 first_true true b h = refl
 first_true false b h = h
@@ -39,7 +36,7 @@ is_true false h = absurd h
 
 both_hold : (a b : Bool) → a ≡ true → T b → T (a && b)
 both_hold true b e h = h
-both_hold false b e h = absurd (true_false (sym e))
+both_hold false b e h = absurd (true≢false (sym e))
 
 -- what holds of each holds of a list
 pub all_of : {X Y : Type 0} (f : X → Y) (P : Y → Type 0) → ((x : X) → P (f x)) → (xs : List X) → AllByRecursion P (map f xs)

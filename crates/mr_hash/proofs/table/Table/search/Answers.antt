@@ -1,13 +1,11 @@
-use Rattle.std.proofs.Common.{◌≡◌, ◌-◌, ◌<◌, ◌∙◌, ap, sym, subst, true, false, arith}
+use Rattle.std.proofs.Common.{◌-◌, ◌<◌, ◌∙◌, ap, sym, subst, arith}
 use Rattle.std.specs.Ordering.{is_eq}
 use Rattle.std.proofs.lemmas.List.{get_or_default}
+use Rattle.std.proofs.lemmas.Bool.{true≢false}
 use Rattle.mr_container.proofs.Orders.{is_Equal}
 use Rattle.mr_hash.proofs.Finding.{absent, passed, content, place_within}
 use Rattle.mr_hash.proofs.table.Table.search.Goals as goal
 use Rattle.mr_hash.proofs.table.Table.search.Goals.{else-entry-hash-via-then-entry-hash+else-eq, else-entry-hash-via-else-entry-hash}
-
-true_false : true ≡ false → ⊥
-true_false e = cc
 
 pub returns-then-place-eq0-clause-place : goal.returns-then-place-eq0-clause-place
 returns-then-place-eq0-clause-place g c =
@@ -49,7 +47,7 @@ loop-distance-preserved g c =
     passed g.met.K.Key.only_equal_tie g.K.Key.hash_of local.entries.items local.hashed c.args.key.now c.args.hash c.requires local.index.items c.loop-distance.distance c.loop-distance.invariant
     _ c.index-entry.result.now is (place_within local.entries.items local.index.items local.found _ _ c.if-place-eq0.false is) c.index-entry.ensures
     (λ h t. elim c.else-entry-hash.branch [
-      | else-entry-hash-via-then-entry-hash+else-eq w ↦ true_false (sym (ap is_eq t) ∙ sym (g.met.K.Ord.matches_eq _ _) ∙ sym w.eq.ensures ∙ w.if-eq.false)
+      | else-entry-hash-via-then-entry-hash+else-eq w ↦ true≢false (sym (ap is_eq t) ∙ sym (g.met.K.Ord.matches_eq _ _) ∙ sym w.eq.ensures ∙ w.if-eq.false)
       | else-entry-hash-via-else-entry-hash w ↦ w.if-entry-hash.false h
     ])
 
