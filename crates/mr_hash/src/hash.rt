@@ -17,10 +17,9 @@ const TABLES: usize = 64;
 /// Keys with their cells, in N buckets, where N is from 1 to 65536.
 ///
 /// Every key is inside. A key stands in the bucket of its hash modulo N, and its part is that bucket modulo the number of parts.
-// The entries lie in 64 tables, those of a bucket in the table of that bucket modulo 64. A part whose number of parts has a divisor in
-// common with 64 is read off from its own tables alone.
 #[derive(Drop)]
 pub struct HashLocal<K: Key, C: Combiner, const N: usize> {
+    // The keys of a bucket stand in the table of that bucket modulo 64, so that most parts are read off from a few tables.
     tables: Vec<Table<K, C>>,
     faults: Faults<K>,
     alloc: Global,
@@ -92,7 +91,7 @@ impl<K: Key, C: Combiner, const N: usize> Local for HashLocal<K, C, N> {
 
     fn emit(&mut self, key: K, value: C::Value) -> Result<(), Memory> {
         let hash = key.hash();
-        let table = &mut self.tables[(hash % N as u64 % 64) as usize];
+        let table = &mut self.tables[(hash % N as u64 % TABLES as u64) as usize];
         table.emit(self.alloc, hash, key, value)
     }
 

@@ -5,7 +5,8 @@ use crate::entry::Entry;
 use mr_base::Memory;
 use std::alloc::Global;
 
-/// The slot that is tried at this distance.
+/// The slot that is tried for a hash at this distance, in an index of so many slots: from a first one on, and round.
+// The lowest six bits of a hash tell its table, and are left out.
 #[tactic(auto, unfolding(crate::specs::Slots::slot_of))]
 pub fn slot(size: usize, hash: u64, distance: usize) -> usize
     requires { distance < size }
@@ -21,7 +22,7 @@ pub fn slot(size: usize, hash: u64, distance: usize) -> usize
     }
 }
 
-/// The first slot with no place that is tried for this hash.
+/// The first slot with no place that is tried for this hash, in an index that is not full.
 pub fn free_slot(index: &[u32], hash: u64) -> usize
     requires { used index.now < length index.now }
     ensures { IsFree index.now hash result }
@@ -35,7 +36,7 @@ pub fn free_slot(index: &[u32], hash: u64) -> usize
     0
 }
 
-/// An index of no places.
+/// An index of so many slots with no place.
 pub fn empty_index(alloc: Global, size: usize) -> Result<Vec<u32>, Memory>
     ensures items { IfOk result (λ index. index.items ≡ replicate size 0) }
     ensures len { IfOk result (λ index. vec_len index ≡ size) }
@@ -44,7 +45,7 @@ pub fn empty_index(alloc: Global, size: usize) -> Result<Vec<u32>, Memory>
     Ok(index)
 }
 
-/// An index of so many slots.
+/// An index of these entries, of so many slots.
 pub fn indexed<K, V>(
     alloc: Global,
     entries: &[Entry<K, V>],
