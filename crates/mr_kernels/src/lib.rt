@@ -15,4 +15,4 @@ mod tests;
 
 pub use count::count_byte;
 pub use product::pair_sum;
-pub use scan::{line_end, word_end, word_start};
+pub use scan::{is_word_byte, line_end, word_end, word_start};

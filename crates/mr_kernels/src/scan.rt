@@ -1,6 +1,6 @@
 ghost use Rattle.std.specs.Prelude.{◌≡◌, ◌≤◌, ◌+◌, length, ◌==◌, map, take, drop};
 ghost use Rattle.std.specs.Simd.Lanes.{mask_l};
-ghost use Rattle.mr_items.specs.Words.{is_word_byte};
+ghost use Rattle.mr_items.specs.Words as words;
 ghost use Rattle.mr_kernels.specs.Scan.{is_target, target_in, word_start_in, word_end_in, line_end_in};
 
 use std::simd::prelude::*;
@@ -13,8 +13,10 @@ pub enum Target {
     LineEnd,
 }
 
-fn is_word(byte: u8) -> bool
-    ensures { result ≡ is_word_byte byte }
+/// Whether a byte belongs to a word: an ASCII letter, an ASCII digit, the apostrophe, or a byte from 128.
+#[inline]
+pub fn is_word_byte(byte: u8) -> bool
+    ensures { result ≡ words.is_word_byte byte }
 {
     (48 <= byte && byte <= 57)
         || ((65 <= byte && byte <= 90)
@@ -26,8 +28,8 @@ fn is_sought(byte: u8, target: Target) -> bool
     ensures { result ≡ is_target target byte }
 {
     match target {
-        Target::WordByte => is_word(byte),
-        Target::OtherByte => !is_word(byte),
+        Target::WordByte => is_word_byte(byte),
+        Target::OtherByte => !is_word_byte(byte),
         Target::LineEnd => byte == 10,
     }
 }
@@ -36,7 +38,7 @@ fn is_sought(byte: u8, target: Target) -> bool
 #[inline(always)]
 fn words_in_block(bytes: &[u8], at: usize) -> u64
     requires { at + 16 ≤ length bytes.now }
-    ensures { result ≡ mask_l (map is_word_byte (take 16 (drop at bytes.now))) }
+    ensures { result ≡ mask_l (map words.is_word_byte (take 16 (drop at bytes.now))) }
 {
     let lanes = u8x16::from_slice(&bytes[at..]);
     let digits = lanes.simd_ge(u8x16::splat(48)) & lanes.simd_le(u8x16::splat(57));
@@ -103,18 +105,17 @@ fn scan_blocks(bytes: &[u8], from: usize, target: Target) -> usize
     scan_bytes(bytes, at, target)
 }
 
-/// The least place at or after `from` with a word byte, or the length. A word byte is an ASCII letter, an ASCII digit, the apostrophe
-/// or a byte from 128.
+/// The least place at or after `from` with a word byte, or the length.
 pub fn word_start(bytes: &[u8], from: usize) -> usize
     requires { from ≤ length bytes.now }
     ensures place { result ≡ word_start_in bytes.now from }
     ensures inside { (from ≤ result) × (result ≤ length bytes.now) }
 {
-    if from < bytes.len() && is_word(bytes[from]) {
+    if from < bytes.len() && is_word_byte(bytes[from]) {
         return from;
     }
     // mostly one byte stands between two words
-    if from + 1 < bytes.len() && is_word(bytes[from + 1]) {
+    if from + 1 < bytes.len() && is_word_byte(bytes[from + 1]) {
         return from + 1;
     }
     scan_blocks(bytes, from, Target::WordByte)

@@ -1,7 +1,8 @@
 ghost use Rattle.std.specs.Prelude.{◌≡◌, ◌<◌, ◌≤◌, length};
 ghost use Rattle.mr_defs.specs.Tasks.{boundary_from};
-ghost use Rattle.mr_items.specs.Words as words;
 ghost use Rattle.mr_split.specs.Pieces.{boundary_of};
+
+use mr_kernels::is_word_byte;
 
 /// Where a text may be cut. Its start and its end are always boundaries.
 #[derive(Clone, Copy, Debug, PartialEq, Eq)]
@@ -10,13 +11,6 @@ pub enum Boundary {
     Word,
     /// Behind a byte 10, so that no line goes over it.
     Line,
-}
-
-/// Whether a byte belongs to a word: an ASCII letter, an ASCII digit, the apostrophe, or a byte from 128.
-fn is_word_byte(byte: u8) -> bool
-    ensures { result ≡ words.is_word_byte byte }
-{
-    byte.is_ascii_alphanumeric() || byte == b'\'' || byte >= 128
 }
 
 /// Whether a place before the end is a boundary. It reads the byte at the place and the one before it.
