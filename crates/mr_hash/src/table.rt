@@ -1,4 +1,4 @@
-ghost use Rattle.std.specs.Prelude.{◌≡◌, ◌<◌, ◌≤◌, ◌∷◌, ◌++◌, ◌+◌, ◌*◌, [], ℕ, Bool, true, cond, is_some, length, map, vec_len, Option, Some, None, IfOk, IsOk, OnOk, OnErr, MatchOption};
+ghost use Rattle.std.specs.Prelude.{◌≡◌, ◌<◌, ◌≤◌, ◌∷◌, ◌++◌, ◌+◌, ◌*◌, [], ℕ, Bool, true, cond, is_some, length, map, vec_len, vec_capacity, Option, Some, None, IfOk, IsOk, OnOk, OnErr, MatchOption};
 ghost use Rattle.std.specs.List.{HoldsAt, IsDistinct, IsDistinct-prop, list_all};
 ghost use Rattle.std.specs.FinMap.{find};
 ghost use Rattle.std.specs.Ordering.{eq_by_cmp};
@@ -43,7 +43,7 @@ impl<K: Key, C: Combiner> Table<K, C> {
         })
     }
 
-    /// Combines the value into the cell of its key. After `Memory` the entries are unchanged.
+    /// Combines the value into the cell of its key. After `Memory` the entries and the index are unchanged.
     pub fn emit(&mut self, alloc: Global, hash: u64, key: K, value: C::Value) -> Result<(), Memory>
         requires hash { hash ≡ K.hash_of key }
         requires value { C.Value.allowed value }
@@ -53,6 +53,7 @@ impl<K: Key, C: Combiner> Table<K, C> {
             ≡ cond (is_some (find K.cmp key (pairs_of self.old.entries.items))) (length self.old.entries.items) (length self.old.entries.items + 1)) }
         ensures keys { (p : K → Bool) → p key ≡ true → list_all p (keys_of self.old.entries.items) ≡ true → list_all p (keys_of self.new.entries.items) ≡ true }
         ensures err { OnErr result (self.new.entries.items ≡ self.old.entries.items) }
+        ensures index { OnErr result (self.new.index.items ≡ self.old.index.items) }
         ensures no_memory { C.fixed ≡ true → is_some (find K.cmp key (pairs_of self.old.entries.items)) ≡ true → IsOk result }
     {
         match self.search(hash, &key) {
@@ -93,7 +94,9 @@ impl<K: Key, C: Combiner> Table<K, C> {
         requires few { vec_len self.old.entries < 2147483647 }
         ensures entries { self.new.entries.items ≡ self.old.entries.items }
         ensures len { vec_len self.new.entries ≡ vec_len self.old.entries }
+        ensures capacity { vec_capacity self.new.entries ≡ vec_capacity self.old.entries }
         ensures room { OnOk result (2 * (vec_len self.new.entries + 1) ≤ vec_len self.new.index) }
+        ensures index { OnErr result (self.new.index.items ≡ self.old.index.items) }
     {
         let size = self.index.len();
         if size / 2 <= self.entries.len() {
@@ -109,14 +112,16 @@ impl<K: Key, C: Combiner> Table<K, C> {
         ensures ok { OnOk result (self.new.entries.items ≡ self.old.entries.items ++ record { hash = hash; key = key; cell = cell } ∷ []) }
         ensures len { OnOk result (vec_len self.new.entries ≡ vec_len self.old.entries + 1) }
         ensures err { OnErr result (self.new.entries.items ≡ self.old.entries.items) }
+        ensures index { OnErr result (self.new.index.items ≡ self.old.index.items) }
     {
         let count = self.entries.len();
         if count >= MOST_ENTRIES {
             return Err(Memory);
         }
+        self.entries.reserve(1)?;
         self.grow(alloc)?;
         let at = free_slot(&self.index, hash);
-        self.entries.push(Entry { hash, key, cell })?;
+        self.entries.push_reserved(Entry { hash, key, cell });
         self.index[at] = count as u32 + 1;
         Ok(())
     }
