@@ -5,6 +5,8 @@
 //! there is no memory for them.
 #![tactic(auto)]
 
+ghost use Rattle.std.specs.Prelude.{◌≡◌, map, string_bytes, IfOk};
+
 use mr_base::{Memory, Status, Word};
 use mr_outside::{FileShelf, PassGate, StdSink, put_all};
 use mr_top::{MEMORY_LINE, USAGE_LINE, run};
@@ -12,7 +14,10 @@ use std::alloc::{AllocError, Global};
 use std::io::Write;
 use std::process::ExitCode;
 
-fn words_of(alloc: Global, texts: &[String]) -> Result<Vec<Word>, Memory> {
+// The words are these texts.
+fn words_of(alloc: Global, texts: &[String]) -> Result<Vec<Word>, Memory>
+    ensures { IfOk result (λ words. words.items ≡ map string_bytes texts.now) }
+{
     let mut words = Vec::new(alloc);
     for text in texts {
         words.push(Word::of(alloc, text.as_str())?)?;
