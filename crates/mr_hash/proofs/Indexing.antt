@@ -37,17 +37,17 @@ used_replicate (suc size) = used_replicate size
 pub reached : (size hash at : ℕ) → at < size → (distance : ℕ) × (distance < size) × (slot_of size hash distance ≡ at)
 unfolding slot_of
 reached size hash at h =
-    let first = and_le_r (hash / 64) (size - 1) in
-    elim (cases_lt at (bit_and (hash / 64) (size - 1))) [
+    let first = and_le_r (hash / 4096) (size - 1) in
+    elim (cases_lt at (bit_and (hash / 4096) (size - 1))) [
       | inl before ↦ (
-        at + (size - bit_and (hash / 64) (size - 1)),
+        at + (size - bit_and (hash / 4096) (size - 1)),
         omega (arith, first, before, h),
-        ap (λ t. cond t (bit_and (hash / 64) (size - 1) + (at + (size - bit_and (hash / 64) (size - 1)))) ((at + (size - bit_and (hash / 64) (size - 1))) - (size - bit_and (hash / 64) (size - 1)))) (not_lt _ _ (omega (arith, first, before, h))) ∙ omega (arith, first, before, h),
+        ap (λ t. cond t (bit_and (hash / 4096) (size - 1) + (at + (size - bit_and (hash / 4096) (size - 1)))) ((at + (size - bit_and (hash / 4096) (size - 1))) - (size - bit_and (hash / 4096) (size - 1)))) (not_lt _ _ (omega (arith, first, before, h))) ∙ omega (arith, first, before, h),
       )
       | inr after ↦ (
-        at - bit_and (hash / 64) (size - 1),
+        at - bit_and (hash / 4096) (size - 1),
         omega (arith, first, after, h),
-        ap (λ t. cond t (bit_and (hash / 64) (size - 1) + (at - bit_and (hash / 64) (size - 1))) ((at - bit_and (hash / 64) (size - 1)) - (size - bit_and (hash / 64) (size - 1)))) (lt-ltb _ _ (omega (arith, first, after, h))) ∙ omega (arith, first, after, h),
+        ap (λ t. cond t (bit_and (hash / 4096) (size - 1) + (at - bit_and (hash / 4096) (size - 1))) ((at - bit_and (hash / 4096) (size - 1)) - (size - bit_and (hash / 4096) (size - 1)))) (lt-ltb _ _ (omega (arith, first, after, h))) ∙ omega (arith, first, after, h),
       )
     ]
   where
@@ -110,7 +110,6 @@ module _ (index hashes : List ℕ) where
 
     pub indexed_more : Indexed (set index at (length hashes + 1)) (hashes ++ hash ∷ [])
     indexed_more = record {
-      some = subst (λ n. 1 ≤ n) (sym long) was.some;
       count = used_set index at (length hashes) free.within free.empty ∙ ap (λ n. n + 1) was.count ∙ sym more;
       within = λ slot. same_or slot at
           (λ e. subst (λ n. get_or (set index at (length hashes + 1)) slot 0 ≤ n) (sym more) (omega (arith, changed at (length hashes + 1) slot free.within e)))
@@ -128,9 +127,8 @@ module _ (index hashes : List ℕ) where
     }
 
 -- an index of no places
-pub indexed_none : (size : ℕ) → 1 ≤ size → Indexed (replicate size 0) []
-indexed_none size h = record {
-  some = subst (λ n. 1 ≤ n) (sym (length-replicate {A = ℕ} size 0)) h;
+pub indexed_none : (size : ℕ) → Indexed (replicate size 0) []
+indexed_none size = record {
   count = used_replicate size;
   within = λ at. none at;
   before = λ place distance p. absurd (omega (arith, p));

@@ -1,25 +1,16 @@
 -- How the tables are read, part by part.
-use Rattle.std.proofs.Common.{◌≡◌, ◌≢◌, ℕ, zero, suc, ◌+◌, ◌-◌, ◌%◌, ◌<◌, ◌≤◌, ◌==◌, Bool, true, cond, T, List, [], ◌∷◌, ◌++◌, length, get_or, filter, flat_map, drop, inl, inr, refl, sym, ap, subst, ◌∙◌, arith}
+use Rattle.std.proofs.Common.{◌≡◌, ◌≢◌, ℕ, ◌+◌, ◌%◌, ◌<◌, ◌≤◌, ◌==◌, Bool, true, cond, T, List, [], ◌∷◌, ◌++◌, length, get_or, filter, flat_map, drop, inl, inr, refl, sym, ap, subst, ◌∙◌, arith}
 use Rattle.std.specs.List.{list_all}
 use Rattle.std.proofs.lemmas.Bool.{cases_lt, eqb-true, eq-eqb}
 use Rattle.std.proofs.lemmas.List.{drop_all, drop_more, get_or_past, length-map}
 use Rattle.std.proofs.lemmas.List.Elements.{filter-append}
-use Rattle.std.proofs.Math.Nat.{mod-mod_of_dvd, dvd_of_mod-eq-zero}
+use Rattle.std.proofs.Math.Nat.{mod-lt}
 use Rattle.mr_container.proofs.Orders.{not_equal}
 use Rattle.mr_hash.specs.declared.entry.Entry.{Entry}
 use Rattle.mr_hash.specs.Pairs.{pairs_of, keys_of}
-use Rattle.mr_hash.specs.Tables.{table_of, is_spread, pairs_from}
+use Rattle.mr_hash.specs.Tables.{table_at, table_of, is_spread, pairs_from}
 use Rattle.mr_hash.proofs.Finding.{pair_there}
 use Rattle.mr_hash.proofs.Spread.{first_true, second_true, spread_at}
-
--- a table that a stride does not reach has no bucket of the part
-pub not_reached : (stride parts part bucket table : ℕ) → 64 % stride ≡ 0 → parts % stride ≡ 0 → bucket % 64 ≡ table → table % stride ≢ part % stride → bucket % parts ≢ part
-not_reached stride parts part bucket table whole even is h e = h (
-    ap (λ t. t % stride) (sym is)
-    ∙ mod-mod_of_dvd stride bucket (dvd_of_mod-eq-zero stride whole)
-    ∙ sym (mod-mod_of_dvd stride bucket (dvd_of_mod-eq-zero stride even))
-    ∙ ap (λ t. t % stride) e
-    )
 
 module _ {K C : Type 0} (tables : List (List (Entry K C))) where
   -- the entry at a place is the next
@@ -49,53 +40,34 @@ module _ {K C : Type 0} (tables : List (List (Entry K C))) where
     abbrev wanted : K × C → Bool
     wanted e = hash_of e.0 % n % parts == part
 
-    none_wanted : (table : ℕ) → ((bucket : ℕ) → bucket % 64 ≡ table → bucket % parts ≢ part) → (es : List (Entry K C)) → list_all (λ k. table_of n (hash_of k) == table) (keys_of es) ≡ true → filter wanted (pairs_of es) ≡ []
-    none_wanted table none [] all = refl
-    none_wanted table none (e ∷ es) all =
+    -- a table without a bucket of the part has no key of it
+    none_wanted : 1 ≤ n → (table : ℕ) → ((bucket : ℕ) → bucket < n → table_at bucket ≡ table → bucket % parts ≢ part) → (es : List (Entry K C)) → list_all (λ k. table_of n (hash_of k) == table) (keys_of es) ≡ true → filter wanted (pairs_of es) ≡ []
+    none_wanted some table none [] all = refl
+    none_wanted some table none (e ∷ es) all =
         ap (λ t. cond t ((e.key, e.cell) ∷ filter wanted (pairs_of es)) (filter wanted (pairs_of es)))
-        (not_equal (hash_of e.key % n % parts) part (none (hash_of e.key % n) (eqb-true (table_of n (hash_of e.key)) table (first_true _ _ all))))
-        ∙ none_wanted table none es (second_true _ _ all)
+        (not_equal (hash_of e.key % n % parts) part (none (hash_of e.key % n) (mod-lt (hash_of e.key) some) (eqb-true (table_of n (hash_of e.key)) table (first_true _ _ all))))
+        ∙ none_wanted some table none es (second_true _ _ all)
 
-    -- tables that have no key of the part
-    skipped : T (is_spread hash_of n 0 tables) → (count from : ℕ) → ((bucket : ℕ) → from ≤ bucket % 64 → bucket % 64 < from + count → bucket % parts ≢ part)
-        → filter wanted (flat_map pairs_of (drop from tables)) ≡ filter wanted (flat_map pairs_of (drop (from + count) tables))
-    skipped s zero from none = ap (λ m. filter wanted (flat_map pairs_of (drop m tables))) same
-      where
-        same : from ≡ from + 0
-        same = omega arith
-    skipped s (suc count) from none =
-        elim (cases_lt from (length tables)) [
-          | inl h ↦
-              ap (λ l. filter wanted (flat_map pairs_of l)) (drop_more tables from [] h)
-              ∙ filter-append wanted (pairs_of (get_or tables from [])) (flat_map pairs_of (drop (from + 1) tables))
-              ∙ ap (λ l. l ++ filter wanted (flat_map pairs_of (drop (from + 1) tables))) (none_wanted from (λ bucket is. none bucket (omega (arith, is)) (omega (arith, is))) (get_or tables from []) (spread_at hash_of n tables 0 from from (omega arith) s))
-          | inr h ↦ ap (λ l. filter wanted (flat_map pairs_of l)) (drop_all from tables h ∙ sym (drop_all (from + 1) tables (omega (arith, h))))
-        ]
-        ∙ skipped s count (from + 1) (λ bucket above below. none bucket (omega (arith, above)) (omega (arith, below)))
-        ∙ ap (λ m. filter wanted (flat_map pairs_of (drop m tables))) same
-      where
-        same : (from + 1) + count ≡ from + suc count
-        same = omega arith
+    pub no_key : 1 ≤ n → T (is_spread hash_of n 0 tables) → (table : ℕ) → ((bucket : ℕ) → bucket < n → table_at bucket ≡ table → bucket % parts ≢ part) → filter wanted (pairs_of (get_or tables table [])) ≡ []
+    no_key some s table none = none_wanted some table none (get_or tables table []) (spread_at hash_of n tables 0 table table (omega arith) s)
 
-    skipped_to : T (is_spread hash_of n 0 tables) → (from to : ℕ) → from ≤ to → ((bucket : ℕ) → from ≤ bucket % 64 → bucket % 64 < to → bucket % parts ≢ part)
-        → filter wanted (flat_map pairs_of (drop from tables)) ≡ filter wanted (pairs_from to 0 tables)
-    skipped_to s from to h none =
-        skipped s (to - from) from (λ bucket above below. none bucket above (omega (arith, below, h)))
-        ∙ ap (λ m. filter wanted (flat_map pairs_of (drop m tables))) same
-        ∙ ap (filter wanted) (sym (table_begun to))
-      where
-        same : from + (to - from) ≡ to
-        same = omega (arith, h)
+    -- a table with no key of the part is passed over
+    pub table_skipped : (table : ℕ) → table < length tables → filter wanted (pairs_of (get_or tables table [])) ≡ []
+        → filter wanted (flat_map pairs_of (drop table tables)) ≡ filter wanted (flat_map pairs_of (drop (table + 1) tables))
+    table_skipped table h none =
+        ap (λ l. filter wanted (flat_map pairs_of l)) (drop_more tables table [] h)
+        ∙ filter-append wanted (pairs_of (get_or tables table [])) (flat_map pairs_of (drop (table + 1) tables))
+        ∙ ap (λ l. l ++ filter wanted (flat_map pairs_of (drop (table + 1) tables))) none
 
-    -- the first table that is read
-    pub part_begun : T (is_spread hash_of n 0 tables) → (first : ℕ) → ((bucket : ℕ) → 0 ≤ bucket % 64 → bucket % 64 < first → bucket % parts ≢ part) → filter wanted (flat_map pairs_of tables) ≡ filter wanted (pairs_from first 0 tables)
-    part_begun s first none = skipped_to s 0 first (omega arith) none
+    -- where a next table is begun
+    module _ (to : ℕ) where
+      pub part_begun : filter wanted (flat_map pairs_of (drop 0 tables)) ≡ filter wanted (flat_map pairs_of (drop to tables)) → filter wanted (flat_map pairs_of tables) ≡ filter wanted (pairs_from to 0 tables)
+      part_begun passed = passed ∙ ap (filter wanted) (sym (table_begun to))
 
-    -- the next
-    pub table_passed : T (is_spread hash_of n 0 tables) → (table place : ℕ) (es : List (Entry K C)) → es ≡ get_or tables table [] → length es ≤ place
-        → (to : ℕ) → table + 1 ≤ to → ((bucket : ℕ) → table + 1 ≤ bucket % 64 → bucket % 64 < to → bucket % parts ≢ part)
-        → filter wanted (pairs_from table place tables) ≡ filter wanted (pairs_from to 0 tables)
-    table_passed s table place es is h to after none = ap (filter wanted) (table_read table place es is h) ∙ skipped_to s (table + 1) to after none
+      pub table_passed : (table place : ℕ) (es : List (Entry K C)) → es ≡ get_or tables table [] → length es ≤ place
+          → filter wanted (flat_map pairs_of (drop (table + 1) tables)) ≡ filter wanted (flat_map pairs_of (drop to tables))
+          → filter wanted (pairs_from table place tables) ≡ filter wanted (pairs_from to 0 tables)
+      table_passed table place es is h passed = ap (filter wanted) (table_read table place es is h) ∙ passed ∙ ap (filter wanted) (sym (table_begun to))
 
     -- an entry of the part, and of another
     module _ (table place : ℕ) (es : List (Entry K C)) (e : Entry K C) (is : es ≡ get_or tables table []) (l : place < length es) (there : e ≡ get_or es place e) (known : e.hash ≡ hash_of e.key) where

@@ -1,5 +1,5 @@
 -- Tables that each have the keys of their own hashes.
-use Rattle.std.proofs.Common.{◌≡◌, ◌≢◌, ℕ, zero, suc, ◌+◌, ◌<◌, ◌≤◌, ◌==◌, Bool, true, false, ◌&&◌, cond, if◌then◌else◌, T, List, [], ◌∷◌, ◌++◌, length, get_or, set, map, filter, flat_map, sum_by, replicate, Option, Some, None, is_some, Result, Ok, Err, OnOk, OnErr, inl, inr, refl, sym, ap, subst, ◌∙◌, arith}
+use Rattle.std.proofs.Common.{◌≡◌, ◌≢◌, ℕ, zero, suc, ◌+◌, ◌<◌, ◌≤◌, ◌==◌, min, Bool, true, false, ◌&&◌, cond, if◌then◌else◌, T, List, [], ◌∷◌, ◌++◌, length, get_or, set, map, filter, flat_map, sum_by, replicate, Option, Some, None, is_some, Result, Ok, Err, OnOk, OnErr, inl, inr, refl, sym, ap, subst, ◌∙◌, arith}
 use Rattle.std.specs.List.{IsDistinct, AllByRecursion, list_all}
 use Rattle.std.specs.Option.{option_or}
 use Rattle.std.specs.declared.cmp.Ordering.{Ordering}
@@ -8,6 +8,7 @@ use Rattle.std.specs.Cmp.{IsTotalOrder}
 use Rattle.std.specs.FinMap.{IsAntisymmetric, find}
 use Rattle.std.proofs.lemmas.Bool.{true≢false, cases_lt, eqb-true, eq-eqb}
 use Rattle.std.proofs.lemmas.Bool.Decides.{eqb_tells}
+use Rattle.std.proofs.Math.Nat.{mod-lt}
 use Rattle.std.proofs.Math.Seq.{map-set_same}
 use Rattle.std.proofs.lemmas.List.{map-append, map-set, length-map, get_or-map, get_or_past, get_or-replicate, length-replicate, get_or-set_same, get_or-set_other}
 use Rattle.std.proofs.lemmas.List.Sums.{sum_by-set}
@@ -37,6 +38,10 @@ is_true false h = absurd h
 both_hold : (a b : Bool) → a ≡ true → T b → T (a && b)
 both_hold true b e h = h
 both_hold false b e h = absurd (true≢false (sym e))
+
+-- the table of a hash is there
+pub own_table : (hash n : ℕ) → 1 ≤ n → (count : ℕ) → count ≡ min n 192 → table_of n hash < count
+own_table hash n some count is = omega (arith, is, mod-lt hash {m = n} some)
 
 -- what holds of each holds of a list
 pub all_of : {X Y : Type 0} (f : X → Y) (P : Y → Type 0) → ((x : X) → P (f x)) → (xs : List X) → AllByRecursion P (map f xs)
@@ -247,3 +252,7 @@ none_there R hash_of n m k = elim (cases_lt (table_of n (hash_of k)) m) [
 pub none_counted : (X : Type 0) (m : ℕ) → sum_by length (replicate {A = List X} m []) ≡ 0
 none_counted X zero = refl
 none_counted X (suc m) = none_counted X m
+
+pub spread_none : {K : Type 0} (C : Type 0) (hash_of : K → ℕ) (n i m : ℕ) → T (is_spread {K = K} {C = C} hash_of n i (replicate m []))
+spread_none C hash_of n i zero = tt
+spread_none C hash_of n i (suc m) = spread_none C hash_of n (i + 1) m

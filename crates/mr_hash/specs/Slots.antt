@@ -5,7 +5,7 @@ use Rattle.std.proofs.Props.{props}
 
 -- the slot that is tried at a distance: from a first one on, and round
 unfoldable pub slot_of : ℕ → ℕ → ℕ → ℕ
-slot_of size hash distance = cond (nat_lt distance (size - bit_and (hash / 64) (size - 1))) (bit_and (hash / 64) (size - 1) + distance) (distance - (size - bit_and (hash / 64) (size - 1)))
+slot_of size hash distance = cond (nat_lt distance (size - bit_and (hash / 4096) (size - 1))) (bit_and (hash / 4096) (size - 1) + distance) (distance - (size - bit_and (hash / 4096) (size - 1)))
 
 -- the slot that is tried for a hash at a distance
 abbrev pub tried : List ℕ → ℕ → ℕ → ℕ
@@ -18,7 +18,6 @@ used (value ∷ values) = cond (nat_eq value 0) (used values) (used values + 1)
 
 -- each place is found by the slots of its hash, before the first with nothing
 pub record Indexed (index hashes : List ℕ) : Type 0 where
-  pub some : 1 ≤ length index
   pub count : used index ≡ length hashes
   pub within : (at : ℕ) → slice_index index at ≤ length hashes
   pub before : (place distance : ℕ) → place < length hashes → distance < length index

@@ -6,9 +6,13 @@ use Rattle.std.specs.FinMap.{find}
 use Rattle.mr_hash.specs.declared.entry.Entry.{Entry}
 use Rattle.mr_hash.specs.Pairs.{pairs_of, keys_of}
 
+-- the table of a bucket
+abbrev pub table_at : ℕ → ℕ
+table_at bucket = bucket % 192
+
 -- the table of a hash, where there are n buckets
 abbrev pub table_of : ℕ → ℕ → ℕ
-table_of n hash = hash % n % 64
+table_of n hash = table_at (hash % n)
 
 module _ {K C : Type 0} where
   -- each key stands in the table of its hash, where the first of these tables has the number i

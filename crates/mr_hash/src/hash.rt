@@ -1,10 +1,10 @@
-ghost use Rattle.std.specs.Prelude.{◌≡◌, ◌≢◌, ◌&&◌, ◌<◌, ◌≤◌, ◌%◌, ◌∷◌, ◌++◌, ◌+◌, [], ℕ, T, true, is_some, length, map, replicate, sum_by, vec_len, Option, Some, None, IfOk, OnOk, OnErr};
+ghost use Rattle.std.specs.Prelude.{◌≡◌, ◌≢◌, ◌&&◌, ◌<◌, ◌≤◌, ◌%◌, ◌∷◌, ◌++◌, ◌+◌, [], ℕ, T, true, false, is_some, length, map, min, replicate, sum_by, vec_len, Option, Some, None, IfOk, OnOk, OnErr};
 ghost use Rattle.std.specs.FinMap.{find};
 ghost use Rattle.mr_defs.specs.Stands.{StandsFor};
 ghost use Rattle.mr_base.specs.Noting.{noted_of};
 ghost use Rattle.std.proofs.Common.{ap};
 ghost use Rattle.mr_container.specs.Laws.{any_order, kept};
-ghost use Rattle.mr_hash.specs.Tables.{cell_in, is_spread};
+ghost use Rattle.mr_hash.specs.Tables.{cell_in, is_spread, table_at};
 
 use crate::table::Table;
 use mr_base::{Faults, Key, Memory, keep_lesser};
@@ -12,20 +12,21 @@ use mr_combine::Combiner;
 use mr_container::{Cursor, Local, Parted};
 use std::alloc::Global;
 
-const TABLES: usize = 64;
+// 64 * 3, so that the usual numbers of parts divide it. More tables would part the keys that come often, and make each pair dearer.
+const MOST_TABLES: usize = 192;
 
 /// Keys with their cells, in N buckets, where N is from 1 to 65536.
 ///
 /// Every key is inside. A key stands in the bucket of its hash modulo N, and its part is that bucket modulo the number of parts.
 #[derive(Drop)]
 pub struct HashLocal<K: Key, C: Combiner, const N: usize> {
-    // The keys of a bucket stand in the table of that bucket modulo 64, so that most parts are read off from a few tables.
+    // The keys of a bucket stand in the table of that bucket modulo 192, so that a part is read off from a few tables.
     tables: Vec<Table<K, C>>,
     faults: Faults<K>,
     alloc: Global,
     ghost some_buckets: { 1 ≤ N },
     ghost few_buckets: { N ≤ 65536 },
-    ghost count: { vec_len tables ≡ 64 },
+    ghost count: { vec_len tables ≡ min N 192 },
     ghost spread: { T (is_spread K.hash_of N 0 (map (λ t. t.entries.items) tables.items)) },
 }
 
@@ -38,7 +39,7 @@ impl<K: Key, C: Combiner, const N: usize> HashLocal<K, C, N> {
         ensures inside { (k : K) → ⟦<HashLocal<K, C, N> as Parted>⟧.inside k ≡ true }
         ensures parts { (parts : ℕ) (k : K) → ⟦<HashLocal<K, C, N> as Parted>⟧.part_of parts k ≡ K.hash_of k % N % parts }
     {
-        let tables = empty_tables(alloc)?;
+        let tables = empty_tables(alloc, N.min(MOST_TABLES))?;
         Ok(HashLocal {
             tables,
             faults: Faults::none(),
@@ -48,13 +49,16 @@ impl<K: Key, C: Combiner, const N: usize> HashLocal<K, C, N> {
 }
 
 // Tables with no entry.
-fn empty_tables<K: Key, C: Combiner>(alloc: Global) -> Result<Vec<Table<K, C>>, Memory>
-    ensures items { IfOk result (λ tables. map (λ t. t.entries.items) tables.items ≡ replicate 64 []) }
-    ensures len { IfOk result (λ tables. vec_len tables ≡ 64) }
+fn empty_tables<K: Key, C: Combiner>(
+    alloc: Global,
+    count: usize,
+) -> Result<Vec<Table<K, C>>, Memory>
+    ensures items { IfOk result (λ tables. map (λ t. t.entries.items) tables.items ≡ replicate count []) }
+    ensures len { IfOk result (λ tables. vec_len tables ≡ count) }
 {
-    let mut tables = Vec::with_capacity(alloc, TABLES)?;
-    for _table in 0..TABLES {
-        tables.push(Table::new(alloc)?)?;
+    let mut tables = Vec::with_capacity(alloc, count)?;
+    for _table in 0..count {
+        tables.push(Table::new(alloc))?;
     }
     Ok(tables)
 }
@@ -91,7 +95,7 @@ impl<K: Key, C: Combiner, const N: usize> Local for HashLocal<K, C, N> {
 
     fn emit(&mut self, key: K, value: C::Value) -> Result<(), Memory> {
         let hash = key.hash();
-        let table = &mut self.tables[(hash % N as u64 % TABLES as u64) as usize];
+        let table = &mut self.tables[(hash % N as u64) as usize % MOST_TABLES];
         table.emit(self.alloc, hash, key, value)
     }
 
@@ -152,13 +156,13 @@ impl<K: Key, C: Combiner, const N: usize> Parted for HashLocal<K, C, N> {
         Cursor {
             part,
             parts,
-            place: next_table(0, part, parts),
+            place: self.next_table(0, part, parts),
             within: 0,
         }
     }
 
     fn next(&self, cursor: &mut Cursor) -> Option<(&K, &C::Cell)> {
-        while cursor.place < TABLES as u64 {
+        while cursor.place < self.tables.len() as u64 {
             let table = &self.tables[cursor.place as usize];
             if cursor.within < table.entries.len() as u64 {
                 let entry = &table.entries[cursor.within as usize];
@@ -167,7 +171,7 @@ impl<K: Key, C: Combiner, const N: usize> Parted for HashLocal<K, C, N> {
                     return Some((&entry.key, &entry.cell));
                 }
             } else {
-                cursor.place = next_table(cursor.place + 1, cursor.part, cursor.parts);
+                cursor.place = self.next_table(cursor.place + 1, cursor.part, cursor.parts);
                 cursor.within = 0;
             }
         }
@@ -175,42 +179,51 @@ impl<K: Key, C: Combiner, const N: usize> Parted for HashLocal<K, C, N> {
     }
 }
 
-// The first table from this one on that may have keys of the part, or the number of tables.
-fn next_table(from: u64, part: u32, parts: u32) -> u64
-    requires from { from ≤ 64 }
-    requires some { 1 ≤ parts }
-    ensures after { from ≤ result }
-    ensures within { result ≤ 64 }
-    ensures none { (bucket : ℕ) → from ≤ bucket % 64 → bucket % 64 < result → bucket % parts ≢ part }
-{
-    let step = stride(parts);
-    for table in from..TABLES as u64 {
-        if table % step == part as u64 % step {
-            return table;
+impl<K: Key, C: Combiner, const N: usize> HashLocal<K, C, N> {
+    ghost use Rattle.std.specs.Prelude.{◌≡◌, ◌==◌, ◌≤◌, ◌%◌, [], drop, false, filter, flat_map, get_or, map, vec_len};
+    ghost use Rattle.mr_hash.specs.Pairs.{pairs_of};
+
+    // The first table from this one on that may have keys of the part, or the number of tables.
+    fn next_table(&self, from: u64, part: u32, parts: u32) -> u64
+        requires some { 1 ≤ parts }
+        requires from { from ≤ vec_len self.now.tables }
+        ensures after { from ≤ result }
+        ensures passed { filter (λ e. K.hash_of e.0 % N % parts == part) (flat_map pairs_of (drop from (map (λ t. t.entries.items) self.now.tables.items)))
+            ≡ filter (λ e. K.hash_of e.0 % N % parts == part) (flat_map pairs_of (drop result (map (λ t. t.entries.items) self.now.tables.items))) }
+    {
+        for table in from..self.tables.len() as u64 {
+            if self.may_have(table, part, parts) {
+                return table;
+            }
         }
+        self.tables.len() as u64
     }
-    TABLES as u64
+
+    // Whether the table has an entry, and a bucket of the part.
+    fn may_have(&self, table: u64, part: u32, parts: u32) -> bool
+        requires some { 1 ≤ parts }
+        requires table { table < vec_len self.now.tables }
+        ensures none { result ≡ false → filter (λ e. K.hash_of e.0 % N % parts == part) (pairs_of (get_or (map (λ t. t.entries.items) self.now.tables.items) table [])) ≡ [] }
+    {
+        !self.tables[table as usize].entries.is_empty()
+            && has_bucket(N as u32, table as u32, part, parts)
+    }
 }
 
-// The greatest power of two up to 64 that divides the number of parts.
-fn stride(parts: u32) -> u64
-    ensures some { 1 ≤ result }
-    ensures tables { 64 % result ≡ 0 }
-    ensures parts { parts % result ≡ 0 }
+// Whether one of so many buckets stands in the table and is one of the part.
+fn has_bucket(buckets: u32, table: u32, part: u32, parts: u32) -> bool
+    requires some { 1 ≤ parts }
+    requires few { buckets ≤ 65536 }
+    requires table { table < 192 }
+    ensures some { result ≡ true → (bucket : ℕ) × (bucket < buckets) × (table_at bucket ≡ table) × (bucket % parts ≡ part) }
+    ensures none { result ≡ false → (bucket : ℕ) → bucket < buckets → table_at bucket ≡ table → bucket % parts ≢ part }
 {
-    if parts % 64 == 0 {
-        64
-    } else if parts % 32 == 0 {
-        32
-    } else if parts % 16 == 0 {
-        16
-    } else if parts % 8 == 0 {
-        8
-    } else if parts % 4 == 0 {
-        4
-    } else if parts % 2 == 0 {
-        2
-    } else {
-        1
+    let mut bucket = table;
+    while bucket < buckets {
+        if bucket % parts == part {
+            return true;
+        }
+        bucket += MOST_TABLES as u32;
     }
+    false
 }

@@ -6,14 +6,14 @@ use mr_base::Memory;
 use std::alloc::Global;
 
 /// The slot that is tried for a hash at this distance, in an index of so many slots: from a first one on, and round.
-// The lowest six bits of a hash tell its table, and are left out.
+// The lowest bits of a hash tell its table, and are left out.
 #[tactic(auto, unfolding(crate::specs::Slots::slot_of))]
 pub fn slot(size: usize, hash: u64, distance: usize) -> usize
     requires { distance < size }
     ensures slot { result ≡ slot_of size hash distance }
     ensures within { result < size }
 {
-    let first = (hash / 64) as usize & (size - 1);
+    let first = (hash / 4096) as usize & (size - 1);
     let room = size - first;
     if distance < room {
         first + distance

@@ -8,7 +8,7 @@ ghost use Rattle.mr_hash.specs.Pairs.{pairs_of, hashes_of, keys_of};
 ghost use Rattle.mr_hash.specs.Slots.{Indexed, Indexed-prop, IsFree};
 
 use crate::entry::Entry;
-use crate::slots::{empty_index, free_slot, indexed, slot};
+use crate::slots::{free_slot, indexed, slot};
 use mr_base::{Key, Memory};
 use mr_combine::Combiner;
 use std::alloc::Global;
@@ -32,15 +32,14 @@ pub struct Table<K: Key, C: Combiner> {
 }
 
 impl<K: Key, C: Combiner> Table<K, C> {
-    /// A table with no entry.
-    pub fn new(alloc: Global) -> Result<Table<K, C>, Memory>
-        ensures { IfOk result (λ table. table.entries.items ≡ []) }
+    /// A table with no entry. Takes no memory.
+    pub fn new(alloc: Global) -> Table<K, C>
+        ensures { result.entries.items ≡ [] }
     {
-        let index = empty_index(alloc, FEWEST_SLOTS)?;
-        Ok(Table {
+        Table {
             entries: Vec::new(alloc),
-            index,
-        })
+            index: Vec::new(alloc),
+        }
     }
 
     /// Combines the value into the cell of its key. After `Memory` the entries and the index are unchanged.
@@ -100,7 +99,7 @@ impl<K: Key, C: Combiner> Table<K, C> {
     {
         let size = self.index.len();
         if size / 2 <= self.entries.len() {
-            self.index = indexed(alloc, &self.entries, 2 * size)?;
+            self.index = indexed(alloc, &self.entries, FEWEST_SLOTS.max(2 * size))?;
         }
         Ok(())
     }

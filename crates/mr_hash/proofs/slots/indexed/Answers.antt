@@ -9,7 +9,7 @@ pub loop-entry-init : goal.loop-entry-init
 loop-entry-init g c = record {
   size = c.in_ok-index.ensures.len;
   place = refl;
-  indexed = subst (λ l. Indexed l []) (sym c.in_ok-index.ensures.items) (indexed_none c.args.size (omega (arith, c.requires.room)));
+  indexed = subst (λ l. Indexed l []) (sym c.in_ok-index.ensures.items) (indexed_none c.args.size);
 }
 
 pub loop-entry-preserved : goal.loop-entry-preserved

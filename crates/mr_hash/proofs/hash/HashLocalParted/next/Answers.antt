@@ -1,4 +1,5 @@
-use Rattle.std.proofs.Common.{◌<◌, ◌≤◌, ◌∙◌, ◌%◌, ◌+◌, ◌∷◌, ◌==◌, ap, sym, arith, filter, map, length}
+use Rattle.std.proofs.Common.{◌≡◌, ℕ, ◌<◌, ◌≤◌, ◌∙◌, ◌%◌, ◌+◌, ◌∷◌, ◌==◌, ap, sym, subst, arith, drop, filter, flat_map, map, length}
+use Rattle.mr_hash.specs.Pairs.{pairs_of}
 use Rattle.mr_hash.specs.Tables.{pairs_from}
 use Rattle.mr_hash.proofs.Finding.{known_hash}
 use Rattle.mr_hash.proofs.Spread.{list_there}
@@ -57,7 +58,7 @@ loop-cursor-preserved g c =
       parts = kept.parts;
       some = kept.some;
       left = kept.left
-          ∙ table_passed tables g.K.Key.hash_of g.row.N c.args.cursor.now.parts c.args.cursor.now.part local.spread at.place at.within table.entries.items
-          (list_there (λ t. t.entries.items) local.tables.items at.place table within c.index-table.ensures) far c.next_table-cursor.result c.next_table-cursor.ensures.after
-          (λ bucket above below h. c.next_table-cursor.ensures.none bucket above below (ap (λ q. bucket % q) kept.parts ∙ h ∙ sym kept.part));
+          ∙ table_passed tables g.K.Key.hash_of g.row.N c.args.cursor.now.parts c.args.cursor.now.part c.next_table-cursor.result at.place at.within table.entries.items
+          (list_there (λ t. t.entries.items) local.tables.items at.place table within c.index-table.ensures) far
+          (subst (λ (q : ℕ × ℕ). filter (λ e. g.K.Key.hash_of e.0 % g.row.N % q.0 == q.1) (flat_map pairs_of (drop (at.place + 1) tables)) ≡ filter (λ e. g.K.Key.hash_of e.0 % g.row.N % q.0 == q.1) (flat_map pairs_of (drop c.next_table-cursor.result tables))) (λ i. (kept.parts i, kept.part i)) c.next_table-cursor.ensures.passed);
     }

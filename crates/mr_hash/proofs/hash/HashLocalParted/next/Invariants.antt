@@ -13,4 +13,4 @@ invariant-loop-cursor g l = record {
 
 -- a table more counts for more than all places in one
 abbrev pub decreases-loop-cursor : goal.decreases-loop-cursor
-decreases-loop-cursor g l = (64 - l.cursor.place) * 2147483649 + (2147483648 - l.cursor.within)
+decreases-loop-cursor g l = (192 - l.cursor.place) * 2147483649 + (2147483648 - l.cursor.within)

@@ -12,8 +12,8 @@ invariant_of-result g c =
     let none = sym c.new.ensures.items in
     record {
       few = omega (arith, c.new.ensures.len);
-      half = omega (arith, c.new.ensures.len, c.in_ok-index.ensures.len);
+      half = omega (arith, c.new.ensures.len);
       distinct = subst (λ es. IsDistinct (eq_by_cmp g.K.Ord.cmp) (keys_of es)) none (distinct_none _);
       hashed = subst (λ es. hashes_of es ≡ map g.K.Key.hash_of (keys_of es)) none refl;
-      found = subst (λ es. Indexed c.in_ok-index.index.items (hashes_of es)) none (subst (λ l. Indexed l []) (sym c.in_ok-index.ensures.items) (indexed_none 16 (omega arith)));
+      found = subst (λ es. Indexed c.new-2.result.items (hashes_of es)) none (subst (λ l. Indexed l []) (sym c.new-2.ensures.items) (indexed_none 0));
     }
