@@ -82,7 +82,7 @@ fn same_as_plain<const N: usize>(alloc: Global, parts: u32) -> Result<bool, Memo
 #[test]
 fn cells_of_the_plain_container(rt: HostRuntime) -> Result<(), Fail> {
     let alloc = rt.alloc();
-    for parts in [1, 3, 64] {
+    for parts in [1, 7, 64] {
         assert!(rt;
             same_as_plain::<1>(alloc, parts)?,
             "1 bucket, {parts} parts"
