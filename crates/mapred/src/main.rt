@@ -6,6 +6,8 @@
 #![tactic(auto)]
 
 ghost use Rattle.std.specs.Prelude.{◌≡◌, map, string_bytes, IfOk};
+ghost use Rattle.std.specs.Process.{exit_status};
+ghost use Rattle.mr_base.specs.Codes.{code_of};
 
 use mr_base::{Memory, Status, Word};
 use mr_outside::{FileShelf, PassGate, StdSink, put_all};
@@ -25,11 +27,20 @@ fn words_of(alloc: Global, texts: &[String]) -> Result<Vec<Word>, Memory>
     Ok(words)
 }
 
+// The exit status of a program that ends so.
+fn exit(status: Status) -> ExitCode
+    ensures { exit_status result ≡ code_of status }
+{
+    ExitCode::from(status.code())
+}
+
 // Ends without a run, with the line that says so.
-fn ended<W: Write + Drop>(err: W, line: &[u8], status: Status) -> ExitCode {
+fn ended<W: Write + Drop>(err: W, line: &[u8], status: Status) -> ExitCode
+    ensures { exit_status result ≡ code_of status }
+{
     let mut err = StdSink::new(err);
     let _ = put_all(&mut err, line);
-    ExitCode::from(status.code())
+    exit(status)
 }
 
 fn main(rt: HostRuntime) -> ExitCode {
@@ -56,5 +67,5 @@ fn main(rt: HostRuntime) -> ExitCode {
         &mut err,
         &PassGate::new(),
     );
-    ExitCode::from(status.code())
+    exit(status)
 }
