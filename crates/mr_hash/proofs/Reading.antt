@@ -1,16 +1,36 @@
 -- How the tables are read, part by part.
-use Rattle.std.proofs.Common.{◌≡◌, ◌≢◌, ℕ, ◌+◌, ◌%◌, ◌<◌, ◌≤◌, ◌==◌, Bool, true, cond, T, List, [], ◌∷◌, ◌++◌, length, get_or, filter, flat_map, drop, inl, inr, refl, sym, ap, subst, ◌∙◌, arith}
+use Rattle.std.proofs.Common.{◌≡◌, ◌≢◌, ℕ, ◌+◌, ◌*◌, ◌/◌, ◌%◌, ◌<◌, ◌≤◌, ◌==◌, Bool, true, cond, T, List, [], ◌∷◌, ◌++◌, length, get_or, filter, flat_map, drop, inl, inr, refl, sym, ap, subst, ◌∙◌, arith}
 use Rattle.std.specs.List.{list_all}
 use Rattle.std.proofs.lemmas.Bool.{cases_lt, eqb-true, eq-eqb}
 use Rattle.std.proofs.lemmas.List.{drop_all, drop_more, get_or_past, length-map}
 use Rattle.std.proofs.lemmas.List.Elements.{filter-append}
-use Rattle.std.proofs.Math.Nat.{mod-lt}
+use Rattle.std.proofs.Math.Nat.{mod-lt, mod-eq_of_lt, mod-add-div, add-mul-mod_self_left}
 use Rattle.mr_container.proofs.Orders.{not_equal}
 use Rattle.mr_hash.specs.declared.entry.Entry.{Entry}
 use Rattle.mr_hash.specs.Pairs.{pairs_of, keys_of}
 use Rattle.mr_hash.specs.Tables.{table_at, table_of, is_spread, pairs_from}
 use Rattle.mr_hash.proofs.Finding.{pair_there}
 use Rattle.mr_hash.proofs.Spread.{first_true, second_true, spread_at}
+
+-- the buckets of a table have their parts in turn, so that as many as there are parts tell
+pub turn_tells : (parts part table : ℕ) → 1 ≤ parts → table < 192 → ((bucket : ℕ) → bucket < table + 192 * parts → table_at bucket ≡ table → bucket % parts ≢ part)
+    → (bucket : ℕ) → table_at bucket ≡ table → bucket % parts ≢ part
+turn_tells parts part table some within none bucket here h = none early below (add-mul-mod_self_left table 192 turn ∙ mod-eq_of_lt within) (sym moved ∙ h)
+  where
+    turn : ℕ
+    turn = bucket / 192 % parts
+
+    early : ℕ
+    early = table + 192 * turn
+
+    below : early < table + 192 * parts
+    below = omega (arith, mod-lt (bucket / 192) {m = parts} some)
+
+    later : bucket ≡ early + parts * (192 * (bucket / 192 / parts))
+    later = omega (arith, here, mod-add-div bucket 192, mod-add-div (bucket / 192) parts)
+
+    moved : bucket % parts ≡ early % parts
+    moved = ap (λ b. b % parts) later ∙ add-mul-mod_self_left early parts (192 * (bucket / 192 / parts))
 
 module _ {K C : Type 0} (tables : List (List (Entry K C))) where
   -- the entry at a place is the next

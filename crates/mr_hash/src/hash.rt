@@ -211,6 +211,8 @@ impl<K: Key, C: Combiner, const N: usize> HashLocal<K, C, N> {
 }
 
 // Whether one of so many buckets stands in the table and is one of the part.
+//
+// The buckets of a table have their parts in turn, so as many as there are parts tell.
 fn has_bucket(buckets: u32, table: u32, part: u32, parts: u32) -> bool
     requires some { 1 ≤ parts }
     requires few { buckets ≤ 65536 }
@@ -219,7 +221,10 @@ fn has_bucket(buckets: u32, table: u32, part: u32, parts: u32) -> bool
     ensures none { result ≡ false → (bucket : ℕ) → bucket < buckets → table_at bucket ≡ table → bucket % parts ≢ part }
 {
     let mut bucket = table;
-    while bucket < buckets {
+    for _turn in 0..parts {
+        if bucket >= buckets {
+            return false;
+        }
         if bucket % parts == part {
             return true;
         }

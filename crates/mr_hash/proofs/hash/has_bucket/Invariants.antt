@@ -1,12 +1,9 @@
-use Rattle.std.proofs.Common.{◌≡◌, ◌≢◌, ℕ, ◌%◌, ◌<◌, ◌-◌}
+use Rattle.std.proofs.Common.{◌≡◌, ◌≢◌, ℕ, ◌+◌, ◌*◌, ◌%◌, ◌<◌}
 use Rattle.mr_hash.specs.Tables.{table_at}
 use Rattle.mr_hash.proofs.hash.has_bucket.Given as goal
 
-abbrev pub invariant-loop-bucket : goal.invariant-loop-bucket
-invariant-loop-bucket l = record {
-  here : table_at l.bucket ≡ l.table;
+abbrev pub invariant-loop-turn : goal.invariant-loop-turn
+invariant-loop-turn l = record {
+  here : l.bucket ≡ l.table + 192 * l._turn;
   passed : (bucket : ℕ) → bucket < l.bucket → table_at bucket ≡ l.table → bucket % l.parts ≢ l.part;
 }
-
-abbrev pub decreases-loop-bucket : goal.decreases-loop-bucket
-decreases-loop-bucket l = l.buckets - l.bucket
