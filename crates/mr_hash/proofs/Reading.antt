@@ -1,14 +1,13 @@
 -- How the tables are read, part by part.
-use Rattle.std.proofs.Common.{◌≡◌, ◌≢◌, ℕ, ◌+◌, ◌*◌, ◌/◌, ◌%◌, ◌<◌, ◌≤◌, ◌==◌, Bool, true, cond, T, List, [], ◌∷◌, ◌++◌, length, get_or, filter, flat_map, drop, inl, inr, refl, sym, ap, subst, ◌∙◌, arith}
+use Rattle.std.proofs.Common.{◌≡◌, ◌≢◌, ℕ, ◌+◌, ◌*◌, ◌/◌, ◌%◌, ◌<◌, ◌≤◌, ◌==◌, true, cond, T, List, [], ◌∷◌, ◌++◌, length, get_or, flat_map, drop, inl, inr, refl, sym, ap, subst, ◌∙◌, arith}
 use Rattle.std.specs.List.{list_all}
 use Rattle.std.proofs.lemmas.Bool.{cases_lt, eqb-true, eq-eqb}
 use Rattle.std.proofs.lemmas.List.{drop_all, drop_more, get_or_past, length-map}
-use Rattle.std.proofs.lemmas.List.Elements.{filter-append}
 use Rattle.std.proofs.Math.Nat.{mod-lt, mod-eq_of_lt, mod-add-div, add-mul-mod_self_left}
 use Rattle.mr_container.proofs.Orders.{not_equal}
 use Rattle.mr_hash.specs.declared.entry.Entry.{Entry}
 use Rattle.mr_hash.specs.Pairs.{pairs_of, keys_of}
-use Rattle.mr_hash.specs.Tables.{table_at, table_of, is_spread, pairs_from}
+use Rattle.mr_hash.specs.Tables.{HasBucket, table_at, table_of, is_spread, of_part, pairs_from}
 use Rattle.mr_hash.proofs.Finding.{pair_there}
 use Rattle.mr_hash.proofs.Spread.{first_true, second_true, spread_at}
 
@@ -57,48 +56,40 @@ module _ {K C : Type 0} (tables : List (List (Entry K C))) where
   ]
 
   module _ (hash_of : K → ℕ) (n parts part : ℕ) where
-    abbrev wanted : K × C → Bool
-    wanted e = hash_of e.0 % n % parts == part
+    abbrev chosen : List (K × C) → List (K × C)
+    chosen entries = of_part hash_of n parts part entries
 
     -- a table without a bucket of the part has no key of it
-    none_wanted : 1 ≤ n → (table : ℕ) → ((bucket : ℕ) → bucket < n → table_at bucket ≡ table → bucket % parts ≢ part) → (es : List (Entry K C)) → list_all (λ k. table_of n (hash_of k) == table) (keys_of es) ≡ true → filter wanted (pairs_of es) ≡ []
-    none_wanted some table none [] all = refl
-    none_wanted some table none (e ∷ es) all =
-        ap (λ t. cond t ((e.key, e.cell) ∷ filter wanted (pairs_of es)) (filter wanted (pairs_of es)))
-        (not_equal (hash_of e.key % n % parts) part (none (hash_of e.key % n) (mod-lt (hash_of e.key) some) (eqb-true (table_of n (hash_of e.key)) table (first_true _ _ all))))
-        ∙ none_wanted some table none es (second_true _ _ all)
+    none_chosen : 1 ≤ n → (table : ℕ) → (HasBucket n table parts part → ⊥) → (es : List (Entry K C)) → list_all (λ k. table_of n (hash_of k) == table) (keys_of es) ≡ true → chosen (pairs_of es) ≡ []
+    none_chosen some table none [] all = refl
+    none_chosen some table none (e ∷ es) all =
+        ap (λ t. cond t ((e.key, e.cell) ∷ chosen (pairs_of es)) (chosen (pairs_of es)))
+        (not_equal (hash_of e.key % n % parts) part (λ h. none (hash_of e.key % n, mod-lt (hash_of e.key) some, eqb-true (table_of n (hash_of e.key)) table (first_true _ _ all), h)))
+        ∙ none_chosen some table none es (second_true _ _ all)
 
-    pub no_key : 1 ≤ n → T (is_spread hash_of n 0 tables) → (table : ℕ) → ((bucket : ℕ) → bucket < n → table_at bucket ≡ table → bucket % parts ≢ part) → filter wanted (pairs_of (get_or tables table [])) ≡ []
-    no_key some s table none = none_wanted some table none (get_or tables table []) (spread_at hash_of n tables 0 table table (omega arith) s)
-
-    -- a table with no key of the part is passed over
-    pub table_skipped : (table : ℕ) → table < length tables → filter wanted (pairs_of (get_or tables table [])) ≡ []
-        → filter wanted (flat_map pairs_of (drop table tables)) ≡ filter wanted (flat_map pairs_of (drop (table + 1) tables))
-    table_skipped table h none =
-        ap (λ l. filter wanted (flat_map pairs_of l)) (drop_more tables table [] h)
-        ∙ filter-append wanted (pairs_of (get_or tables table [])) (flat_map pairs_of (drop (table + 1) tables))
-        ∙ ap (λ l. l ++ filter wanted (flat_map pairs_of (drop (table + 1) tables))) none
+    pub no_key : 1 ≤ n → T (is_spread hash_of n 0 tables) → (table : ℕ) → (HasBucket n table parts part → ⊥) → chosen (pairs_of (get_or tables table [])) ≡ []
+    no_key some s table none = none_chosen some table none (get_or tables table []) (spread_at hash_of n tables 0 table table (omega arith) s)
 
     -- where a next table is begun
     module _ (to : ℕ) where
-      pub part_begun : filter wanted (flat_map pairs_of (drop 0 tables)) ≡ filter wanted (flat_map pairs_of (drop to tables)) → filter wanted (flat_map pairs_of tables) ≡ filter wanted (pairs_from to 0 tables)
-      part_begun passed = passed ∙ ap (filter wanted) (sym (table_begun to))
+      pub part_begun : chosen (flat_map pairs_of (drop 0 tables)) ≡ chosen (flat_map pairs_of (drop to tables)) → chosen (flat_map pairs_of tables) ≡ chosen (pairs_from to 0 tables)
+      part_begun passed = passed ∙ ap chosen (sym (table_begun to))
 
       pub table_passed : (table place : ℕ) (es : List (Entry K C)) → es ≡ get_or tables table [] → length es ≤ place
-          → filter wanted (flat_map pairs_of (drop (table + 1) tables)) ≡ filter wanted (flat_map pairs_of (drop to tables))
-          → filter wanted (pairs_from table place tables) ≡ filter wanted (pairs_from to 0 tables)
-      table_passed table place es is h passed = ap (filter wanted) (table_read table place es is h) ∙ passed ∙ ap (filter wanted) (sym (table_begun to))
+          → chosen (flat_map pairs_of (drop (table + 1) tables)) ≡ chosen (flat_map pairs_of (drop to tables))
+          → chosen (pairs_from table place tables) ≡ chosen (pairs_from to 0 tables)
+      table_passed table place es is h passed = ap chosen (table_read table place es is h) ∙ passed ∙ ap chosen (sym (table_begun to))
 
     -- an entry of the part, and of another
     module _ (table place : ℕ) (es : List (Entry K C)) (e : Entry K C) (is : es ≡ get_or tables table []) (l : place < length es) (there : e ≡ get_or es place e) (known : e.hash ≡ hash_of e.key) where
       abbrev after : List (K × C)
-      after = filter wanted (pairs_from table (place + 1) tables)
+      after = chosen (pairs_from table (place + 1) tables)
 
-      step : filter wanted (pairs_from table place tables) ≡ cond (e.hash % n % parts == part) ((e.key, e.cell) ∷ after) after
-      step = ap (filter wanted) (entry_next table place es e is l there) ∙ ap (λ h. cond (h % n % parts == part) ((e.key, e.cell) ∷ after) after) (sym known)
+      step : chosen (pairs_from table place tables) ≡ cond (e.hash % n % parts == part) ((e.key, e.cell) ∷ after) after
+      step = ap chosen (entry_next table place es e is l there) ∙ ap (λ h. cond (h % n % parts == part) ((e.key, e.cell) ∷ after) after) (sym known)
 
-      pub entry_taken : e.hash % n % parts ≡ part → filter wanted (pairs_from table place tables) ≡ (e.key, e.cell) ∷ after
+      pub entry_taken : e.hash % n % parts ≡ part → chosen (pairs_from table place tables) ≡ (e.key, e.cell) ∷ after
       entry_taken h = step ∙ ap (λ t. cond t ((e.key, e.cell) ∷ after) after) (eq-eqb _ _ h)
 
-      pub entry_passed : (e.hash % n % parts ≢ part) → filter wanted (pairs_from table place tables) ≡ after
+      pub entry_passed : (e.hash % n % parts ≢ part) → chosen (pairs_from table place tables) ≡ after
       entry_passed h = step ∙ ap (λ t. cond t ((e.key, e.cell) ∷ after) after) (not_equal _ _ h)

@@ -1,5 +1,5 @@
 -- Entries in tables, by the bucket of their key.
-use Rattle.std.specs.Prelude.{ℕ, ◌+◌, ◌%◌, ◌==◌, Bool, true, ◌&&◌, List, [], ◌∷◌, ◌++◌, drop, flat_map, Option, slice_index_or}
+use Rattle.std.specs.Prelude.{◌≡◌, ◌<◌, ℕ, ◌+◌, ◌%◌, ◌==◌, Bool, true, ◌&&◌, List, [], ◌∷◌, ◌++◌, drop, filter, flat_map, Option, slice_index_or}
 use Rattle.std.specs.List.{list_all}
 use Rattle.std.specs.declared.cmp.Ordering.{Ordering}
 use Rattle.std.specs.FinMap.{find}
@@ -9,6 +9,10 @@ use Rattle.mr_hash.specs.Pairs.{pairs_of, keys_of}
 -- the table of a bucket
 abbrev pub table_at : ℕ → ℕ
 table_at bucket = bucket % 192
+
+-- one of n buckets that stands in the table and is one of the part
+abbrev pub HasBucket : ℕ → ℕ → ℕ → ℕ → Type 0
+HasBucket n table parts part = (bucket : ℕ) × (bucket < n) × (table_at bucket ≡ table) × (bucket % parts ≡ part)
 
 -- the table of a hash, where there are n buckets
 abbrev pub table_of : ℕ → ℕ → ℕ
@@ -27,3 +31,7 @@ module _ {K C : Type 0} where
   -- keys and cells from a place in a table on
   abbrev pub pairs_from : ℕ → ℕ → List (List (Entry K C)) → List (K × C)
   pairs_from table place tables = drop place (pairs_of (slice_index_or tables table [])) ++ flat_map pairs_of (drop (table + 1) tables)
+
+  -- those whose key is of the part, where there are n buckets
+  abbrev pub of_part : (K → ℕ) → ℕ → ℕ → ℕ → List (K × C) → List (K × C)
+  of_part hash_of n parts part entries = filter (λ e. hash_of e.0 % n % parts == part) entries

@@ -4,7 +4,7 @@ ghost use Rattle.mr_defs.specs.Stands.{StandsFor};
 ghost use Rattle.mr_base.specs.Noting.{noted_of};
 ghost use Rattle.std.proofs.Common.{ap};
 ghost use Rattle.mr_container.specs.Laws.{any_order, kept};
-ghost use Rattle.mr_hash.specs.Tables.{cell_in, is_spread, table_at};
+ghost use Rattle.mr_hash.specs.Tables.{cell_in, is_spread, HasBucket};
 
 use crate::table::Table;
 use mr_base::{Faults, Key, Memory, keep_lesser};
@@ -121,10 +121,10 @@ impl<K: Key, C: Combiner, const N: usize> Local for HashLocal<K, C, N> {
 }
 
 impl<K: Key, C: Combiner, const N: usize> Parted for HashLocal<K, C, N> {
-    ghost use Rattle.std.specs.Prelude.{◌≡◌, ◌==◌, ◌≤◌, ◌%◌, true, filter, is_some, map};
+    ghost use Rattle.std.specs.Prelude.{◌≡◌, ◌≤◌, ◌%◌, true, is_some, map};
     ghost use Rattle.std.proofs.Common.{ap};
     ghost use Rattle.mr_container.specs.Laws.{both_true, never_outside, part_below};
-    ghost use Rattle.mr_hash.specs.Tables.{cell_in, pairs_from};
+    ghost use Rattle.mr_hash.specs.Tables.{cell_in, of_part, pairs_from};
 
     type Fold = C;
 
@@ -136,7 +136,7 @@ impl<K: Key, C: Combiner, const N: usize> Parted for HashLocal<K, C, N> {
 
     ghost stands_in = { λ s c. 1 ≤ c.parts };
 
-    ghost left = { λ s c. filter (λ e. K.hash_of e.0 % N % c.parts == c.part) (pairs_from c.place c.within (map (λ t. t.entries.items) s.tables.items)) };
+    ghost left = { λ s c. of_part K.hash_of N c.parts c.part (pairs_from c.place c.within (map (λ t. t.entries.items) s.tables.items)) };
 
     ghost means = { λ s es h. h };
 
@@ -144,7 +144,7 @@ impl<K: Key, C: Combiner, const N: usize> Parted for HashLocal<K, C, N> {
 
     ghost same_cells = { λ s t e k. ap (λ ts. cell_in K.cmp K.hash_of N ts k) e.0 };
 
-    ghost same_cursors = { λ s t e c h. (h, ap (λ ts. filter (λ e. K.hash_of e.0 % N % c.parts == c.part) (pairs_from c.place c.within ts)) e.0) };
+    ghost same_cursors = { λ s t e c h. (h, ap (λ ts. of_part K.hash_of N c.parts c.part (pairs_from c.place c.within ts)) e.0) };
 
     ghost spares_present = { λ s k f p. both_true _ _ f p };
 
@@ -180,16 +180,18 @@ impl<K: Key, C: Combiner, const N: usize> Parted for HashLocal<K, C, N> {
 }
 
 impl<K: Key, C: Combiner, const N: usize> HashLocal<K, C, N> {
-    ghost use Rattle.std.specs.Prelude.{◌≡◌, ◌==◌, ◌≤◌, ◌%◌, [], drop, false, filter, flat_map, get_or, map, vec_len};
+    ghost use Rattle.std.specs.Prelude.{◌≡◌, ◌<◌, ◌≤◌, [], drop, true, false, flat_map, get_or, map, vec_len};
     ghost use Rattle.mr_hash.specs.Pairs.{pairs_of};
+    ghost use Rattle.mr_hash.specs.Tables.{HasBucket, of_part};
 
     // The first table from this one on that may have keys of the part, or the number of tables.
     fn next_table(&self, from: u64, part: u32, parts: u32) -> u64
         requires some { 1 ≤ parts }
         requires from { from ≤ vec_len self.now.tables }
         ensures after { from ≤ result }
-        ensures passed { filter (λ e. K.hash_of e.0 % N % parts == part) (flat_map pairs_of (drop from (map (λ t. t.entries.items) self.now.tables.items)))
-            ≡ filter (λ e. K.hash_of e.0 % N % parts == part) (flat_map pairs_of (drop result (map (λ t. t.entries.items) self.now.tables.items))) }
+        ensures bucket { result < vec_len self.now.tables → HasBucket N result parts part }
+        ensures passed { of_part K.hash_of N parts part (flat_map pairs_of (drop from (map (λ t. t.entries.items) self.now.tables.items)))
+            ≡ of_part K.hash_of N parts part (flat_map pairs_of (drop result (map (λ t. t.entries.items) self.now.tables.items))) }
     {
         for table in from..self.tables.len() as u64 {
             if self.may_have(table, part, parts) {
@@ -203,7 +205,8 @@ impl<K: Key, C: Combiner, const N: usize> HashLocal<K, C, N> {
     fn may_have(&self, table: u64, part: u32, parts: u32) -> bool
         requires some { 1 ≤ parts }
         requires table { table < vec_len self.now.tables }
-        ensures none { result ≡ false → filter (λ e. K.hash_of e.0 % N % parts == part) (pairs_of (get_or (map (λ t. t.entries.items) self.now.tables.items) table [])) ≡ [] }
+        ensures bucket { result ≡ true → HasBucket N table parts part }
+        ensures none { result ≡ false → of_part K.hash_of N parts part (pairs_of (get_or (map (λ t. t.entries.items) self.now.tables.items) table [])) ≡ [] }
     {
         !self.tables[table as usize].entries.is_empty()
             && has_bucket(N as u32, table as u32, part, parts)
@@ -217,8 +220,8 @@ fn has_bucket(buckets: u32, table: u32, part: u32, parts: u32) -> bool
     requires some { 1 ≤ parts }
     requires few { buckets ≤ 65536 }
     requires table { table < 192 }
-    ensures some { result ≡ true → (bucket : ℕ) × (bucket < buckets) × (table_at bucket ≡ table) × (bucket % parts ≡ part) }
-    ensures none { result ≡ false → (bucket : ℕ) → bucket < buckets → table_at bucket ≡ table → bucket % parts ≢ part }
+    ensures some { result ≡ true → HasBucket buckets table parts part }
+    ensures none { result ≡ false → HasBucket buckets table parts part → ⊥ }
 {
     let mut bucket = table;
     for _turn in 0..parts {

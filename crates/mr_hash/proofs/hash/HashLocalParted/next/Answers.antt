@@ -1,6 +1,6 @@
-use Rattle.std.proofs.Common.{◌≡◌, ℕ, ◌<◌, ◌≤◌, ◌∙◌, ◌%◌, ◌+◌, ◌∷◌, ◌==◌, ap, sym, subst, arith, drop, filter, flat_map, map, length}
+use Rattle.std.proofs.Common.{◌≡◌, ℕ, ◌<◌, ◌≤◌, ◌∙◌, ◌%◌, ◌+◌, ◌∷◌, ap, sym, subst, arith, drop, flat_map, map, length}
 use Rattle.mr_hash.specs.Pairs.{pairs_of}
-use Rattle.mr_hash.specs.Tables.{pairs_from}
+use Rattle.mr_hash.specs.Tables.{of_part, pairs_from}
 use Rattle.mr_hash.proofs.Finding.{known_hash}
 use Rattle.mr_hash.proofs.Spread.{list_there}
 use Rattle.mr_hash.proofs.Reading.{entry_taken, entry_passed, table_passed}
@@ -21,7 +21,7 @@ returns-then-entry-cursor-clause-entry g c =
     (list_there (λ t. t.entries.items) local.tables.items at.place table within c.index-table.ensures) short c.index-entry.ensures
     (known_hash g.K.Key.hash_of table.entries.items table.hashed at.within entry short c.index-entry.ensures)
     (ap (λ q. entry.hash % g.row.N % q) (sym kept.parts) ∙ c.if-entry-cursor.true ∙ kept.part)
-    ∙ (λ i. (entry.key, entry.cell) ∷ filter (λ e. g.K.Key.hash_of e.0 % g.row.N % sym kept.parts i == sym kept.part i) (pairs_from at.place (at.within + 1) tables))
+    ∙ (λ i. (entry.key, entry.cell) ∷ of_part g.K.Key.hash_of g.row.N (sym kept.parts i) (sym kept.part i) (pairs_from at.place (at.within + 1) tables))
 
 pub loop-cursor-preserved-else-entry-cursor : goal.loop-cursor-preserved-else-entry-cursor
 loop-cursor-preserved-else-entry-cursor g c =
@@ -60,5 +60,5 @@ loop-cursor-preserved g c =
       left = kept.left
           ∙ table_passed tables g.K.Key.hash_of g.row.N c.args.cursor.now.parts c.args.cursor.now.part c.next_table-cursor.result at.place at.within table.entries.items
           (list_there (λ t. t.entries.items) local.tables.items at.place table within c.index-table.ensures) far
-          (subst (λ (q : ℕ × ℕ). filter (λ e. g.K.Key.hash_of e.0 % g.row.N % q.0 == q.1) (flat_map pairs_of (drop (at.place + 1) tables)) ≡ filter (λ e. g.K.Key.hash_of e.0 % g.row.N % q.0 == q.1) (flat_map pairs_of (drop c.next_table-cursor.result tables))) (λ i. (kept.parts i, kept.part i)) c.next_table-cursor.ensures.passed);
+          (subst (λ (q : ℕ × ℕ). of_part g.K.Key.hash_of g.row.N q.0 q.1 (flat_map pairs_of (drop (at.place + 1) tables)) ≡ of_part g.K.Key.hash_of g.row.N q.0 q.1 (flat_map pairs_of (drop c.next_table-cursor.result tables))) (λ i. (kept.parts i, kept.part i)) c.next_table-cursor.ensures.passed);
     }
