@@ -12,7 +12,8 @@ use Rattle.std.proofs.Math.Arith.{bin_ind}
 use Rattle.std.proofs.lemmas.Nat.{or_comm}
 use Rattle.std.proofs.Math.IntN.{+ℤ_comm, +ℤ_assoc}
 use Rattle.std.proofs.lemmas.List.Sorted.{sum_by-IsPermutation, length_permutation, IsPermutation-map}
-use Rattle.mr_defs.specs.Commutative.{IsCommutative, joined_by-IsPermutation}
+use Rattle.mr_defs.specs.Commutative.{IsCommutative}
+use Rattle.mr_defs.specs.CommutativeLaws.{joined_by-IsPermutation}
 use Rattle.mr_defs.specs.Folded.{sum_up_to, min_folded, max_folded, one_folded, count_folded, and_folded, or_folded, xor_folded, bits_folded, both_folded, vecsum_folded, list_folded, distinct_folded, median_folded, total, magnitude, coordinates, in_order, put_in_order, limit}
 use Rattle.mr_defs.proofs.Folds.{IsOrderFree, fold-IsPermutation, reduce-joined_by}
 use Rattle.mr_defs.proofs.InOrder.{put_in_order_free}

@@ -8,6 +8,20 @@ use Rattle.mr_defs.specs.declared.Fault.TheVariants as fault
 use Rattle.mr_defs.specs.Emission.{Emission, Answer}
 use Rattle.mr_defs.specs.Keyed.{at, keys_inside, any_key, large_key, malformed_offset, least}
 
+-- what is noted of the faults: of each kind one or none
+pub record Noted (K : Type 0) : Type 0 where
+  pub malformed : Option ℕ
+  pub outside : Option K
+  pub twice : Option K
+  pub over : Option K
+
+-- the first that is there
+abbrev pub first_of : {K : Type 0} → Noted K → Option (Fault K)
+first_of noted =
+    option_or (option_map fault.Malformed noted.malformed)
+    (option_or (option_map fault.Outside noted.outside)
+    (option_or (option_map fault.Twice noted.twice) (option_map fault.Over noted.over)))
+
 -- the least malformed offset
 abbrev pub malformed_of : {K V : Type 0} → List (Emission K V) → Option ℕ
 malformed_of es = least nat_cmp (filter_map malformed_offset es)
@@ -27,16 +41,21 @@ module _ {K V : Type 0} (R : K → K → Ordering) (inside : K → Bool) where
 
   -- the least key inside with a too large value or a fold that is over
   abbrev pub over_of : (List V → Option Answer) → List (Emission K V) → Option K
-  over_of folded es = least R (filter inside (filter_map large_key es) ++ filter (λ k. is_none (folded (at R es k))) (keys_inside R inside es))
+  over_of folded es =
+      least R (filter inside (filter_map large_key es) ++ filter (λ k. is_none (folded (at R es k))) (keys_inside R inside es))
 
--- the first of four that is there
-abbrev pub first_of : {K : Type 0} → Option ℕ → Option K → Option K → Option K → Option (Fault K)
-first_of malformed outside twice over = option_or (option_map fault.Malformed malformed) (option_or (option_map fault.Outside outside) (option_or (option_map fault.Twice twice) (option_map fault.Over over)))
+  -- the least fault of each kind, in containers of the workers' own and in the array common to all
+  abbrev pub faults_of : (List V → Option Answer) → List (Emission K V) → Noted K
+  faults_of folded es =
+      record { malformed = malformed_of es; outside = outside_of es; twice = None; over = over_of folded es }
 
-module _ {K V : Type 0} (R : K → K → Ordering) (inside : K → Bool) where
-  -- the fault of a container of one's own, and of the common array
+  abbrev pub common_faults_of : List (Emission K V) → Noted K
+  common_faults_of es =
+      record { malformed = malformed_of es; outside = outside_of es; twice = twice_of es; over = large_of es }
+
+  -- the first fault, in each
   abbrev pub fault_of : (List V → Option Answer) → List (Emission K V) → Option (Fault K)
-  fault_of folded es = first_of (malformed_of es) (outside_of R inside es) None (over_of R inside folded es)
+  fault_of folded es = first_of (faults_of folded es)
 
   abbrev pub common_fault_of : List (Emission K V) → Option (Fault K)
-  common_fault_of es = first_of (malformed_of es) (outside_of R inside es) (twice_of R inside es) (large_of R inside es)
+  common_fault_of es = first_of (common_faults_of es)

@@ -77,7 +77,7 @@ vecsum_folded points =
     if nat_le (length points) limit && list_all (λ j. nat_le (magnitude (coordinates points j)) limit) places
     then Some (pos (length points) ∷ map (λ j. total (coordinates points j)) places) else None
 
--- a value put into an ascending list, behind those that are no greater
+-- a value put into an ascending list, behind those that are less
 abbrev pub put_in_order : {A : Type 0} → (A → A → Ordering) → List A → A → List A
 put_in_order R [] v = v ∷ []
 put_in_order R (x ∷ xs) v = if is_gt (R v x) then x ∷ put_in_order R xs v else v ∷ x ∷ xs

@@ -1,11 +1,12 @@
 pub mod Commutative
+pub mod CommutativeLaws
 pub mod Emission
 pub mod Keyed
 pub mod Faulty
 pub mod Folded
 pub mod Rows
 pub mod Stands
-pub mod Parts
+pub mod Partitions
 pub mod Tasks
 pub mod Rounds
 pub mod Laws

@@ -5,14 +5,7 @@ use Rattle.mr_items.specs.Grid.{grid_of, grid_fault_of}
 use Rattle.mr_items.specs.Bitmap.{bitmap_fault_of}
 use Rattle.mr_items.specs.declared.GridFault.TheVariants as grid
 use Rattle.mr_items.specs.declared.BitmapFault.TheVariants as bitmap
-
--- one pixel, with blue 1, green 2 and red 255
-abbrev one_pixel : List ℕ
-one_pixel = 0x42 ∷ 0x4d ∷ 0x3a ∷ 0 ∷ 0 ∷ 0 ∷ 0 ∷ 0 ∷ 0 ∷ 0 ∷ 0x36 ∷ 0 ∷ 0 ∷ 0
-    ∷ 0x28 ∷ 0 ∷ 0 ∷ 0 ∷ 1 ∷ 0 ∷ 0 ∷ 0 ∷ 1 ∷ 0 ∷ 0 ∷ 0 ∷ 1 ∷ 0 ∷ 0x18 ∷ 0
-    ∷ 0 ∷ 0 ∷ 0 ∷ 0 ∷ 4 ∷ 0 ∷ 0 ∷ 0 ∷ 0 ∷ 0 ∷ 0 ∷ 0 ∷ 0 ∷ 0 ∷ 0 ∷ 0
-    ∷ 0 ∷ 0 ∷ 0 ∷ 0 ∷ 0 ∷ 0 ∷ 0 ∷ 0
-    ∷ 1 ∷ 2 ∷ 0xff ∷ 0 ∷ []
+use Rattle.mr_items.proofs.OnePixel.{one_pixel}
 
 good_bitmap : bitmap_fault_of one_pixel ≡ None
 good_bitmap = refl

@@ -1,4 +1,9 @@
 pub mod AllTasks
+mod Reported
+mod OnePixel
 mod TextExamples
+mod LineJobExamples
 mod GridExamples
-mod LineExamples
+mod NumberJobExamples
+mod FaultLineExamples
+mod ReportExamples
