@@ -1,3 +1,5 @@
 pub mod Blocks
+pub mod Bits
+pub mod Runs
 pub mod Scans
 pub mod Products

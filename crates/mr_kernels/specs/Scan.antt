@@ -1,9 +1,10 @@
 -- Scans over a text from a place on.
 use Rattle.std.specs.Prelude.{ℕ, ◌+◌, Bool, not, ◌==◌, List, drop}
 use Rattle.std.specs.List.{prefix_len, position_or_len}
+use Rattle.mr_items.specs.Lines.{is_field_byte}
 use Rattle.mr_items.specs.Words.{is_word_byte}
-use Rattle.mr_kernels.specs.declared.scan.Target.{Target}
-use Rattle.mr_kernels.specs.declared.scan.Target.TheVariants as target
+use Rattle.mr_kernels.specs.declared.masks.Target.{Target}
+use Rattle.mr_kernels.specs.declared.masks.Target.TheVariants as target
 
 -- the least place at or after this one with a word byte, or the length
 abbrev pub word_start_in : List ℕ → ℕ → ℕ
@@ -22,6 +23,7 @@ abbrev pub is_target : Target → ℕ → Bool
 is_target target.WordByte byte = is_word_byte byte
 is_target target.OtherByte byte = not (is_word_byte byte)
 is_target target.LineEnd byte = byte == 10
+is_target target.FieldByte byte = is_field_byte byte
 
 abbrev pub target_in : Target → List ℕ → ℕ → ℕ
 target_in target bytes from = from + position_or_len (is_target target) (drop from bytes)

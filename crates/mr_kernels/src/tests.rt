@@ -1,4 +1,4 @@
-use crate::{count_byte, line_end, pair_sum, word_end, word_start};
+use crate::{count_byte, field_edges, line_end, pair_sum, word_edges, word_end, word_start};
 use std::test::Fail;
 
 #[test]
@@ -57,6 +57,37 @@ fn counts_and_lines(rt: HostRuntime) -> Result<(), Fail> {
     assert_eq!(rt; line_end(lines.as_slice(), 69), 69);
     assert_eq!(rt; line_end(b"sixteen and more bytes\nand more", 3), 22);
     assert_eq!(rt; line_end(b"sixteen and more bytes\nand more", 23), 31);
+    Ok(())
+}
+
+#[test]
+fn edges_of_words_and_fields(rt: HostRuntime) -> Result<(), Fail> {
+    // a word over the end of a block, and one up to the end of the text
+    let mut text = vec![in rt.alloc(); b'.'; 60]?;
+    text.extend_from_slice(b"It's over\t60, \x80 and")?;
+    let text = text.as_slice();
+    assert_eq!(rt; text.len(), 79);
+    let words: [(usize, usize, &[u32]); 5] = [
+        (0, 79, &[60, 64, 65, 69, 70, 72, 74, 75, 76, 79]),
+        (0, 63, &[60, 63]),
+        (61, 66, &[0, 3, 4, 5]),
+        (0, 60, &[]),
+        (79, 79, &[]),
+    ];
+    let mut edges = vec![in rt.alloc(); 7u32; 160]?;
+    for (from, to, wanted) in words {
+        if from <= to && to <= text.len() && edges.len() == 160 {
+            let count = word_edges(text, from, to, &mut edges);
+            assert!(rt;
+                count <= 160 && &edges[..count] == wanted,
+                "from {from} to {to}"
+            );
+        }
+    }
+    if text.len() >= 79 && edges.len() == 160 {
+        let count = field_edges(text, 58, 76, &mut edges);
+        assert!(rt; count <= 160 && &edges[..count] == [0, 6, 7, 11, 12, 15, 16, 17].as_slice());
+    }
     Ok(())
 }
 

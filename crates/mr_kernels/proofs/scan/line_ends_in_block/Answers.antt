@@ -1,6 +1,0 @@
-use Rattle.std.proofs.Common.{◌==◌, take, drop, w8, lit≤}
-use Rattle.std.proofs.lemmas.Simd.{bitmask_splat, length-chunk}
-use Rattle.mr_kernels.proofs.scan.line_ends_in_block.Goals as goal
-
-pub returns : goal.returns
-returns c = bitmask_splat w8 (λ x y. x == y) (take 16 (drop c.args.at c.args.bytes.now)) 16 10 (length-chunk c.args.at 16 c.args.bytes.now c.requires) (lit≤ tt)

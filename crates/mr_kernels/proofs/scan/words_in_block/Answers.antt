@@ -1,7 +1,0 @@
-use Rattle.std.proofs.Common.{take, drop}
-use Rattle.std.proofs.lemmas.Simd.{length-chunk}
-use Rattle.mr_kernels.proofs.Blocks.{word_lanes}
-use Rattle.mr_kernels.proofs.scan.words_in_block.Goals as goal
-
-pub returns : goal.returns
-returns c = word_lanes (take 16 (drop c.args.at c.args.bytes.now)) (length-chunk c.args.at 16 c.args.bytes.now c.requires)
