@@ -1,6 +1,10 @@
 pub mod Codes
 pub mod Hash
+pub mod Keys
+pub mod Leads
 pub mod Lending
 pub mod Noting
 pub mod Numbers
 pub mod Spare
+pub mod Tasks
+pub mod Totals

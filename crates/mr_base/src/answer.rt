@@ -9,12 +9,17 @@ pub struct Answer {
     numbers: Numbers,
 }
 
+// Numbers of 64 bits take no more than they need, since there are as many answers as keys. Two of any size need 32 bytes, and memory may not be taken.
 #[derive(Drop)]
 enum Numbers {
-    One(i128),
-    Two(i128, i128),
+    One(i64),
+    Two(i64, i64),
+    WideOne(Wide),
+    WideTwo(Wide, Wide),
     Many(Few<i128>),
 }
+
+const _: () = prove!(size_of::<Answer>() == 40);
 
 impl Model for Answer {
     ghost use Rattle.std.specs.Prelude.{List, ℤ};
@@ -26,23 +31,76 @@ impl Model for Answer {
     ghost view = { λ a. numbers_of a.numbers };
 }
 
+// A number of 128 bits in two words, which lie as closely as numbers of 64 bits do: of n its words, and of -1 - n these with the high one's first bit set.
+#[derive(Drop)]
+struct Wide {
+    high: u64,
+    low: u64,
+}
+
+impl Model for Wide {
+    ghost use Rattle.std.specs.Prelude.{ℤ};
+
+    ghost Value = { ℤ };
+
+    ghost use Rattle.mr_base.specs.Numbers.{of_words};
+
+    ghost view = { λ w. of_words w.high w.low };
+}
+
+// How many numbers a word has, and the least whose first bit is set.
+const WORD: u128 = 18446744073709551616;
+
+const NEGATIVE: u64 = 9223372036854775808;
+
+impl Wide {
+    fn of(n: i128) -> Wide
+        ensures { result ≡ n }
+    {
+        let negative = n < 0;
+        let rest = (if negative { -1 - n } else { n }) as u128;
+        let high = (rest / WORD) as u64;
+        Wide {
+            high: if negative { high + NEGATIVE } else { high },
+            low: (rest % WORD) as u64,
+        }
+    }
+
+    fn number(&self) -> i128
+        ensures { result ≡ self.now }
+    {
+        let negative = self.high >= NEGATIVE;
+        let high = if negative {
+            self.high - NEGATIVE
+        } else {
+            self.high
+        };
+        let rest = (high as u128 * WORD + self.low as u128) as i128;
+        if negative { -1 - rest } else { rest }
+    }
+}
+
 impl Answer {
     /// The answer of one number.
     pub fn one(n: i128) -> Answer
         ensures { result ≡ n ∷ [] }
     {
-        Answer {
-            numbers: Numbers::One(n),
-        }
+        let numbers = match i64::try_from(n) {
+            Ok(n) => Numbers::One(n),
+            Err(_) => Numbers::WideOne(Wide::of(n)),
+        };
+        Answer { numbers }
     }
 
     /// The answer of two numbers.
     pub fn two(first: i128, second: i128) -> Answer
         ensures { result ≡ first ∷ second ∷ [] }
     {
-        Answer {
-            numbers: Numbers::Two(first, second),
-        }
+        let numbers = match (i64::try_from(first), i64::try_from(second)) {
+            (Ok(first), Ok(second)) => Numbers::Two(first, second),
+            _ => Numbers::WideTwo(Wide::of(first), Wide::of(second)),
+        };
+        Answer { numbers }
     }
 
     /// The answer that has these numbers.
@@ -59,8 +117,8 @@ impl Answer {
         ensures { result ≡ length self.now }
     {
         match &self.numbers {
-            Numbers::One(_) => 1,
-            Numbers::Two(_, _) => 2,
+            Numbers::One(_) | Numbers::WideOne(_) => 1,
+            Numbers::Two(_, _) | Numbers::WideTwo(_, _) => 2,
             Numbers::Many(few) => few.len(),
         }
     }
@@ -71,8 +129,10 @@ impl Answer {
         ensures { slice_get self.now i ≡ Some result }
     {
         match &self.numbers {
-            Numbers::One(n) => *n,
-            Numbers::Two(first, second) => if i == 0 { *first } else { *second },
+            Numbers::One(n) => *n as i128,
+            Numbers::Two(first, second) => (if i == 0 { *first } else { *second }) as i128,
+            Numbers::WideOne(n) => n.number(),
+            Numbers::WideTwo(first, second) => if i == 0 { first } else { second }.number(),
             Numbers::Many(few) => *few.get(i),
         }
     }

@@ -3,6 +3,7 @@ ghost use Rattle.std.specs.Ordering.{nat_cmp};
 ghost use Rattle.mr_defs.specs.Commutative.{joined};
 ghost use Rattle.mr_defs.specs.Faulty.{first_of};
 ghost use Rattle.mr_defs.specs.Keyed.{lesser};
+ghost use Rattle.mr_base.specs.Noting.{noted_of};
 
 use crate::key::Key;
 use crate::memory::Memory;
@@ -56,7 +57,7 @@ impl<K: Key> Faults<K> {
 
     /// The first that is there, in the order malformed, outside, twice, over. None exactly where there is none.
     pub fn first(self) -> Option<Fault<K>>
-        ensures { result ≡ first_of self.malformed self.outside self.twice self.over }
+        ensures { result ≡ first_of (noted_of self) }
     {
         let Faults {
             malformed,

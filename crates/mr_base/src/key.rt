@@ -1,4 +1,4 @@
-ghost use Rattle.std.specs.Prelude.{◌≡◌, ◌≤◌, ℕ, Bool, true, false, List, ◌++◌, IfOk, OnOk, OnErr, IsTrue, IsOk, decimal};
+ghost use Rattle.std.specs.Prelude.{◌≡◌, ◌≤◌, ℕ, ◌<◌, Bool, true, false, List, ◌++◌, IfOk, OnOk, OnErr, IsTrue, IsOk, decimal};
 ghost use Rattle.std.specs.FinMap.{IsAntisymmetric, slice_cmp-IsAntisymmetric, nat_cmp-IsAntisymmetric};
 ghost use Rattle.std.proofs.Common.{rules, refl};
 ghost use Rattle.std.specs.Cmp.{partial_order_from_own_ties};
@@ -6,8 +6,13 @@ ghost use Rattle.std.specs.Cmp.Rules.{comparing};
 ghost use Rattle.std.specs.Cmp.Lexicographic.{slice_cmp};
 ghost use Rattle.std.specs.Int.{to_le_bytes, w64};
 ghost use Rattle.std.specs.Ordering.{nat_cmp, on, as_partial_cmp, eq_by_cmp};
+ghost use Rattle.std.specs.declared.cmp.Ordering.TheVariants.{Less};
+ghost use Rattle.mr_items.specs.FaultLines.{shown_text};
 ghost use Rattle.mr_base.specs.Hash.{fnv1a_of};
+ghost use Rattle.mr_base.specs.Keys.{list_code, scattered};
+ghost use Rattle.mr_base.specs.Leads.{high, high_orders, nat_cmp_less};
 
+use crate::lead::{list_code, scattered, word_at};
 use crate::memory::Memory;
 use crate::text::Text;
 use std::alloc::Global;
@@ -22,14 +27,29 @@ pub trait Key: Ord + Drop {
     /// Whether a copy takes no memory.
     ghost copies_free: { Bool };
 
-    /// The hash, and the bytes that are printed.
+    /// The hash, the bytes that are printed, and what a fault line shows of the key.
     ghost hash_of: { Self → ℕ };
 
     ghost printed: { Self → List ℕ };
 
+    ghost shown_of: { Self → List ℕ };
+
+    /// The number that tables look the key up by, and one that orders as the keys do wherever two differ.
+    ghost code_of: { Self → ℕ };
+
+    ghost lead_of: { Self → ℕ };
+
     /// The hash; equal keys have one.
     fn hash(&self) -> u64
         ensures { result ≡ hash_of self.now };
+
+    /// The code; equal keys have one.
+    fn code(&self) -> u64
+        ensures { result ≡ code_of self.now };
+
+    /// The lead; of two that differ the lesser is the lesser key's.
+    fn lead(&self) -> u64
+        ensures { result ≡ lead_of self.now };
 
     /// A key that is equal.
     fn copy(&self, alloc: Global) -> Result<Self, Memory>
@@ -41,7 +61,14 @@ pub trait Key: Ord + Drop {
         ensures ok { OnOk result (text.new ≡ text.old ++ printed self.now) }
         ensures err { OnErr result (text.new ≡ text.old) };
 
+    /// Appends what a fault line shows of the key. After want of memory the text is as before.
+    fn show(&self, text: &mut Text) -> Result<(), Memory>
+        ensures ok { OnOk result (text.new ≡ text.old ++ shown_of self.now) }
+        ensures err { OnErr result (text.new ≡ text.old) };
+
     ghost only_equal_tie: { IsAntisymmetric Self.cmp };
+
+    ghost lead_orders: { (a b : Self) → lead_of a < lead_of b → Self.cmp a b ≡ Less };
 }
 
 /// A key of bytes in byte order, seen as the list of them. Its hash is `fnv1a` of its bytes, and it prints its bytes.
@@ -129,10 +156,26 @@ impl Key for ByteKey {
 
     ghost printed = { λ k. k };
 
+    ghost shown_of = { shown_text };
+
+    ghost code_of = { list_code };
+
+    ghost lead_of = { high 8 };
+
     ghost only_equal_tie = { slice_cmp-IsAntisymmetric nat_cmp-IsAntisymmetric };
+
+    ghost lead_orders = { high_orders 8 };
 
     fn hash(&self) -> u64 {
         fnv1a(self.as_bytes())
+    }
+
+    fn code(&self) -> u64 {
+        list_code(self.as_bytes(), false)
+    }
+
+    fn lead(&self) -> u64 {
+        word_at(self.as_bytes(), false, 0)
     }
 
     fn copy(&self, alloc: Global) -> Result<ByteKey, Memory> {
@@ -141,6 +184,10 @@ impl Key for ByteKey {
 
     fn print(&self, text: &mut Text) -> Result<(), Memory> {
         text.push(self.as_bytes())
+    }
+
+    fn show(&self, text: &mut Text) -> Result<(), Memory> {
+        text.push_shown(self.as_bytes())
     }
 }
 
@@ -179,10 +226,26 @@ impl Key for NumKey {
 
     ghost printed = { λ k. decimal k };
 
+    ghost shown_of = { λ k. decimal k };
+
+    ghost code_of = { scattered };
+
+    ghost lead_of = { λ k. k };
+
     ghost only_equal_tie = { nat_cmp-IsAntisymmetric };
+
+    ghost lead_orders = { nat_cmp_less };
 
     fn hash(&self) -> u64 {
         fnv1a(&self.0.to_le_bytes())
+    }
+
+    fn code(&self) -> u64 {
+        scattered(self.0)
+    }
+
+    fn lead(&self) -> u64 {
+        self.0
     }
 
     fn copy(&self, _alloc: Global) -> Result<NumKey, Memory> {
@@ -191,5 +254,9 @@ impl Key for NumKey {
 
     fn print(&self, text: &mut Text) -> Result<(), Memory> {
         text.push_number(self.0 as i128)
+    }
+
+    fn show(&self, text: &mut Text) -> Result<(), Memory> {
+        self.print(text)
     }
 }

@@ -10,21 +10,28 @@
 #![tactic(auto)]
 
 mod answer;
+mod borrowed;
 mod emitted;
 mod faults;
 mod few;
 mod key;
+mod lanes;
+mod lead;
 mod memory;
 mod number;
 mod patterns;
+mod queues;
+mod ranges;
 mod rows;
 mod status;
 #[cfg(test)]
 mod tests;
 mod text;
+mod text_key;
 mod word;
 
 pub use answer::Answer;
+pub use borrowed::SliceKey;
 pub use emitted::Emitted;
 pub use faults::{Faults, keep_lesser};
 pub use few::Few;
@@ -33,7 +40,10 @@ pub use memory::{Memory, Stop};
 pub use mr_defs::Fault;
 pub use number::read_number;
 pub use patterns::Patterns;
+pub use queues::TaskQueues;
+pub use ranges::Ranges;
 pub use rows::Rows;
 pub use status::Status;
 pub use text::Text;
+pub use text_key::TextKey;
 pub use word::Word;

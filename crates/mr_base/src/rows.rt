@@ -38,6 +38,27 @@ impl<K: Drop> Rows<K> {
         Ok(())
     }
 
+    /// The rows of these entries. Takes no memory.
+    pub fn from_entries(rows: Vec<(K, Answer)>) -> Rows<K>
+        ensures { result ≡ rows.items }
+    {
+        Rows { rows }
+    }
+
+    /// The entries of the rows. Takes no memory.
+    pub fn into_entries(self) -> Vec<(K, Answer)>
+        ensures { result.items ≡ self }
+    {
+        self.rows
+    }
+
+    /// The entries of the rows, to read.
+    pub fn entries(&self) -> &[(K, Answer)]
+        ensures { result.now ≡ self.now }
+    {
+        self.rows.as_slice()
+    }
+
     /// How many there are.
     pub fn len(&self) -> usize
         ensures { result ≡ length self.now }

@@ -1,8 +1,10 @@
 use crate::{
-    Answer, ByteKey, Fault, Faults, Few, Key, NumKey, Patterns, Rows, Status, Text, Word, fnv1a,
-    read_number,
+    Answer, ByteKey, Fault, Faults, Few, Key, Memory, NumKey, Patterns, Rows, SliceKey, Status,
+    Text, TextKey, Word, fnv1a, read_number,
 };
+use std::alloc::Global;
 use std::test::Fail;
+use std::thread;
 
 #[test]
 fn numbers_in_form(rt: HostRuntime) {
@@ -33,7 +35,7 @@ fn hashes(rt: HostRuntime) -> Result<(), Fail> {
 }
 
 // The printed bytes of a key and of its copy, through the bound.
-fn printed_twice<K: Key>(alloc: std::alloc::Global, key: &K) -> Result<Text, crate::Memory> {
+fn printed_twice<K: Key>(alloc: Global, key: &K) -> Result<Text, Memory> {
     let mut text = Text::new(alloc);
     key.print(&mut text)?;
     key.copy(alloc)?.print(&mut text)?;
@@ -52,6 +54,62 @@ fn keys_through_their_bound(rt: HostRuntime) -> Result<(), Fail> {
     assert!(rt; ByteKey::of(alloc, b"B")? < ByteKey::of(alloc, b"a")?);
     assert!(rt; ByteKey::of(alloc, b"a")? < ByteKey::of(alloc, b"aa")?);
     assert!(rt; NumKey(9) < NumKey(10));
+    assert_eq!(rt; NumKey(7).lead(), 7);
+    let mut shown = Text::new(alloc);
+    ByteKey::of(alloc, b"a b")?.show(&mut shown)?;
+    SliceKey::of(b"\x7fDON'T", true).show(&mut shown)?;
+    NumKey(12).show(&mut shown)?;
+    assert!(rt; shown.as_bytes() == b"a?b?don't12".as_slice());
+    Ok(())
+}
+
+// Whether two keys of one list agree in all that is asked of them.
+fn agree<A: Key, B: Key>(alloc: Global, a: &A, b: &B) -> Result<bool, Memory> {
+    let (left, right) = (printed_twice(alloc, a)?, printed_twice(alloc, b)?);
+    Ok(
+        a.hash() == b.hash()
+            && a.code() == b.code()
+            && a.lead() == b.lead()
+            && left.as_bytes() == right.as_bytes(),
+    )
+}
+
+#[test]
+fn borrowed_keys(rt: HostRuntime) -> Result<(), Fail> {
+    let alloc = rt.alloc();
+    let owned = ByteKey::of(alloc, b"don't")?;
+    assert!(rt; agree(alloc, &owned, &SliceKey::of(b"DON'T", true))?);
+    assert!(rt; agree(alloc, &owned, &ByteKey::part(alloc, b"DON'T", true)?)?);
+    let borrowed: SliceKey = TextKey::part(alloc, b"DON'T", true)?;
+    assert!(rt; agree(alloc, &owned, &borrowed)?);
+    assert!(rt; SliceKey::of(b"B", false) < SliceKey::of(b"a", false));
+    let text = b"The QUICK@[ brown-fox-jumped OVER".as_slice();
+    let long = SliceKey::within(text, 12, 33, true);
+    let ascending = [
+        SliceKey::of(b"a", true),
+        SliceKey::of(b"a\0", true),
+        SliceKey::of(b"brown-fo", true),
+        SliceKey::of(b"brown-fo\0", true),
+        SliceKey::of(b"brown-fox-jumped", false),
+        SliceKey::of(b"brown-fox-jumped oveq", false),
+        SliceKey::of(b"BROWN-fox-jumped over", true),
+        SliceKey::within(text, 4, 11, true),
+    ];
+    for i in 0..7 {
+        assert!(rt; ascending[i] < ascending[i + 1], "{i}");
+    }
+    assert_eq!(rt; ascending[7].lead(), 0x717569636b405b00);
+    assert!(rt; long == ascending[6]);
+    for from in [0, 4, 12, 29] {
+        let owned = ByteKey::part_of(alloc, text, from, 33, true)?;
+        assert!(rt;
+            agree(alloc, &owned, &SliceKey::within(text, from, 33, true))?,
+            "{from}"
+        );
+    }
+    // A key may be lent to a thread and handed to one.
+    let (left, right) = thread::join(&rt, || long.code(), move || borrowed.code());
+    assert!(rt; left != right);
     Ok(())
 }
 
@@ -70,7 +128,19 @@ fn lists_and_texts(rt: HostRuntime) -> Result<(), Fail> {
     let answer = Answer::many(few);
     assert_eq!(rt; answer.len(), 1);
     assert_eq!(rt; answer.number(0), 4);
+    for n in [
+        0,
+        i64::MIN as i128,
+        i64::MAX as i128 + 1,
+        -i128::MAX,
+        i128::MIN,
+        i128::MAX,
+    ] {
+        assert_eq!(rt; Answer::one(n).number(0), n);
+        assert_eq!(rt; Answer::two(5, n).number(1), n);
+    }
     let mut text = Text::new(alloc);
+    text.reserve(2)?;
     text.push(b"n ")?;
     for n in [0, -7, i128::MAX, i128::MIN] {
         text.push_number(n)?;
