@@ -81,16 +81,13 @@ impl SumCell {
     }
 }
 
-/// Adds a sum whose magnitudes add up to `magnitudes`. Past the limit the sum stays behind, and means nothing.
+/// Adds a sum whose magnitudes add up to `magnitudes`. Past the limit the sum wraps, and means nothing.
 fn add_to(cell: &mut SumCell, sum: i64, magnitudes: u64)
     requires { magnitudes ≤ limit → nat_abs sum ≤ magnitudes }
     ensures { cell.new ≡ sum_merged limit cell.old (within (sum_fits limit) (sum, magnitudes)) }
 {
-    let total = cell.magnitudes.saturating_add(magnitudes);
-    if total <= LIMIT {
-        cell.sum += sum;
-    }
-    cell.magnitudes = total;
+    cell.sum = cell.sum.wrapping_add(sum);
+    cell.magnitudes = cell.magnitudes.saturating_add(magnitudes);
 }
 
 /// Adds the values of a key, and answers the sum. Over where their magnitudes add up past 9223372036854775807.

@@ -4,7 +4,7 @@ use Rattle.std.specs.List.{All, AllByRecursion, range_with_len, cons_option, lis
 use Rattle.std.specs.Option.{option_map_or}
 use Rattle.std.specs.Char.{is_ascii_digit}
 use Rattle.std.specs.Str.Parse.{digits_value, starts_with_minus}
-use Rattle.std.proofs.lemmas.Bool.{cases_lt, eqb-true, ltb-true, leb-true}
+use Rattle.std.proofs.lemmas.Bool.{cases_lt, eqb-true, ltb-true, ltb-false, leb-true}
 use Rattle.std.proofs.lemmas.List.{length-map, nil_from_length}
 use Rattle.std.proofs.lemmas.List.Elements.{All-nil, All-cons, All-append, All-same}
 use Rattle.std.proofs.lemmas.Option.{slice_get-get_or}
@@ -57,6 +57,17 @@ row_even bytes width place e = by (nat_lt 1024 count) e
     by : (t : Bool) → (if t then Some (fault.Wide place) else (if not (count == width) then Some (fault.Ragged place) else option_map fault.Number (stray_in bytes place))) ≡ None → (length (fields (line_at bytes place)) ≡ width) × (length (row_at bytes place) ≡ width)
     by true k = absurd (cc)
     by false k = second (count == width) refl k
+
+-- nor more than 1024
+row_narrow : (bytes : List ℕ) (width place : ℕ) → row_fault bytes width place ≡ None → length (fields (line_at bytes place)) ≤ 1024
+row_narrow bytes width place e = by (nat_lt 1024 count) refl e
+  where
+    count : ℕ
+    count = length (fields (line_at bytes place))
+
+    by : (t : Bool) → nat_lt 1024 count ≡ t → (if t then Some (fault.Wide place) else (if not (count == width) then Some (fault.Ragged place) else option_map fault.Number (stray_in bytes place))) ≡ None → count ≤ 1024
+    by true f k = absurd (cc)
+    by false f k = ltb-false 1024 count f
 
 all_even : (bytes : List ℕ) (width : ℕ) (places : List ℕ) → filter_map (row_fault bytes width) places ≡ [] → AllByRecursion (λ place. length (row_at bytes place) ≡ width) places
 all_even bytes width [] e = tt
@@ -116,12 +127,13 @@ module _ (bytes : List ℕ) (at : ℕ) (numbers : List ℤ) (rows columns : ℕ)
   even : AllByRecursion (λ place. length (row_at bytes place) ≡ width_of bytes) places
   even = all_even bytes (width_of bytes) places read.sound
 
-  has_width : 0 < rows → 0 < columns
+  has_width : 0 < rows → (0 < columns) × (columns ≤ 1024)
   has_width h =
       let first : slice_get places 0 ≡ Some (get_or places 0 0) = slice_get-get_or places 0 0 (omega (arith, read.counted)) in
       let some = ltb-true 0 (length (fields (line_at bytes (get_or places 0 0)))) (first_passes (has_fields bytes) (filter (begins_line bytes) (range_with_len 0 at)) (get_or places 0 0) first) in
-      let count = (row_even bytes (width_of bytes) (get_or places 0 0) (first_gives_none (row_fault bytes (width_of bytes)) places (get_or places 0 0) read.sound first)).0 in
-      omega (arith, some, count, read.width h)
+      let sound = first_gives_none (row_fault bytes (width_of bytes)) places (get_or places 0 0) read.sound first in
+      let count = (row_even bytes (width_of bytes) (get_or places 0 0) sound).0 in
+      (omega (arith, some, count, read.width h), omega (arith, row_narrow bytes (width_of bytes) (get_or places 0 0) sound, count, read.width h))
 
   size : length numbers ≡ rows * columns
   size = ap length read.read ∙ length-flat_map-even (row_at bytes) (width_of bytes) places even ∙ ap (λ n. n * width_of bytes) (sym read.counted) ∙ by (cases_lt 0 rows)
@@ -143,8 +155,15 @@ module _ (bytes : List ℕ) (at : ℕ) (numbers : List ℤ) (rows columns : ℕ)
   }
     where
       by : columns ≡ 0 → (0 < rows) ⊎ (rows ≤ 0) → rows ≡ 0
-      by z (inl some) = absurd (omega (arith, z, has_width some))
+      by z (inl some) = absurd (omega (arith, z, (has_width some).0))
       by z (inr few) = omega arith
+
+  pub narrow : columns ≤ 1024
+  narrow = by (cases_lt 0 rows)
+    where
+      by : (0 < rows) ⊎ (rows ≤ 0) → columns ≤ 1024
+      by (inl some) = (has_width some).1
+      by (inr few) = let none : columns ≡ 0 = read.none (omega arith) in omega (arith, none)
 
   rows_are : rows_of numbers columns rows ≡ map (row_at bytes) places
   rows_are = by (cases_lt 0 rows)

@@ -1,4 +1,4 @@
-ghost use Rattle.std.specs.Prelude.{◌≡◌, ◌≤◌, ◌+◌, length, None};
+ghost use Rattle.std.specs.Prelude.{◌≡◌, ◌≤◌, ◌+◌, ◌*◌, length, None, IfOk};
 ghost use Rattle.mr_items.specs.Bitmap.{unsigned_at, signed_at};
 ghost use Rattle.mr_grid.specs.Pixels.{bitmap_of, bitmap_unless, first_fault, format_tests, pixel_tests};
 
@@ -65,7 +65,10 @@ fn format_fault(bytes: &[u8]) -> Option<BitmapFault>
 /// The pixels of a bitmap whose format has no fault.
 fn read_pixels(bytes: &[u8]) -> Result<Bitmap, BitmapFault>
     requires { 54 ≤ length bytes.now }
-    ensures { result ≡ bitmap_unless (first_fault (pixel_tests bytes.now)) bytes.now }
+    ensures pixels { result ≡ bitmap_unless (first_fault (pixel_tests bytes.now)) bytes.now }
+    ensures inside { IfOk result (λ b. b.place + b.stride * b.rows ≤ length bytes.now) }
+    ensures wide { IfOk result (λ b. 3 * b.width ≤ b.stride) }
+    ensures few { IfOk result (λ b. b.rows ≤ length bytes.now) }
 {
     let width = i32_at(bytes, 18);
     if width < 1 {
@@ -95,7 +98,12 @@ fn read_pixels(bytes: &[u8]) -> Result<Bitmap, BitmapFault>
 /// bitmap with a header of 40 bytes, whose numbers are little-endian; a negative height says that the top row comes first, and the
 /// rows are its magnitude. All other header fields and the bytes after the pixels are passed over.
 pub fn read_bitmap(bytes: &[u8]) -> Result<Bitmap, BitmapFault>
-    ensures { result ≡ bitmap_of bytes.now }
+    ensures bitmap { result ≡ bitmap_of bytes.now }
+
+    // The rows lie in the bytes, and the pixels of a row in its bytes.
+    ensures inside { IfOk result (λ b. b.place + b.stride * b.rows ≤ length bytes.now) }
+    ensures wide { IfOk result (λ b. 3 * b.width ≤ b.stride) }
+    ensures few { IfOk result (λ b. b.rows ≤ length bytes.now) }
 {
     match format_fault(bytes) {
         Some(fault) => Err(fault),

@@ -1,6 +1,6 @@
 ghost use Rattle.std.specs.Prelude.{◌≡◌, ◌≤◌, ◌<◌, ◌+◌, ◌^◌, ℕ, ◌==◌, length, Some, IfOk, Ok, Err, if◌then◌else◌};
 ghost use Rattle.mr_base.specs.declared.memory.Stop.TheVariants as Stop;
-ghost use Rattle.mr_items.specs.Grid.{grid_of};
+ghost use Rattle.mr_items.specs.Grid.{columns_of, grid_of};
 ghost use Rattle.mr_items.specs.Lines.{line_at};
 ghost use Rattle.mr_grid.specs.Reading.{line_fault, IsReadTo};
 
@@ -85,6 +85,8 @@ fn read_line(draft: &mut Draft, bytes: &[u8], at: usize) -> Result<usize, Stop<G
 pub fn read_grid(alloc: Global, bytes: &[u8]) -> Result<Grid, Stop<GridFault>>
     ensures grid { IfOk result (λ grid. grid_of bytes.now ≡ Ok grid) }
     ensures fault { (fault : _) → result ≡ Err (Stop.Refused fault) → grid_of bytes.now ≡ Err fault }
+    ensures columns { IfOk result (λ grid. columns_of grid ≤ 1024) }
+    ensures rows { IfOk result (λ grid. length grid ≤ length bytes.now) }
 {
     let mut draft = Draft {
         numbers: Vec::new(alloc),

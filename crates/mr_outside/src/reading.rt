@@ -36,6 +36,13 @@ impl Model for Taken {
 }
 
 impl Taken {
+    /// These bytes, as if they had been read.
+    pub fn of(bytes: Vec<u8>) -> Taken
+        ensures { result ≡ bytes.items }
+    {
+        Taken { bytes }
+    }
+
     /// The bytes, in their order.
     pub fn as_bytes(&self) -> &[u8]
         ensures { result.now ≡ self.now }

@@ -5,11 +5,11 @@ use Rattle.std.proofs.lemmas.Bool.{cases_lt, cases_eq, ne_eqb}
 use Rattle.std.proofs.lemmas.List.FromFn.{map-range_with_len_more}
 use Rattle.std.proofs.lemmas.List.{length-append}
 use Rattle.std.proofs.Math.Nat.{div-mul-le_self, mul-le-mul_right}
-use Rattle.mr_defs.specs.Tasks.{Part, boundary_from, step_of}
+use Rattle.mr_defs.specs.Tasks.{Stretch, boundary_from, step_of}
 use Rattle.mr_split.proofs.Forward.{boundary_from_same}
 
 -- the parts from a place to the next cut, and so on; cuts that coincide have none between them
-abbrev pub parts_from : ℕ → List ℕ → List Part
+abbrev pub parts_from : ℕ → List ℕ → List Stretch
 parts_from from [] = []
 parts_from from (cut ∷ cuts) = if cut == from then parts_from from cuts else (from, cut) ∷ parts_from cut cuts
 
@@ -34,10 +34,10 @@ parts_from-push from [] cut less = parts_other from [] cut (ne_eqb cut from (λ 
 parts_from-push from (c ∷ cuts) cut less = elim (cases_eq c from) [
   | inl same ↦ let e : (c == from) ≡ true = eq-eqb c from same in
       parts_same from (cuts ++ cut ∷ []) c e ∙ parts_from-push from cuts cut (subst (λ p. end_of p cuts < cut) same less)
-      ∙ ap₂ (λ (ps : List Part) (p : ℕ). ps ++ (p, cut) ∷ []) (sym (parts_same from cuts c e)) (ap (λ p. end_of p cuts) (sym same))
+      ∙ ap₂ (λ (ps : List Stretch) (p : ℕ). ps ++ (p, cut) ∷ []) (sym (parts_same from cuts c e)) (ap (λ p. end_of p cuts) (sym same))
   | inr differ ↦ let e : (c == from) ≡ false = ne_eqb c from differ in
       parts_other from (cuts ++ cut ∷ []) c e ∙ ap (λ ps. (from, c) ∷ ps) (parts_from-push c cuts cut less)
-      ∙ ap (λ (ps : List Part). ps ++ (end_of c cuts, cut) ∷ []) (sym (parts_other from cuts c e))
+      ∙ ap (λ (ps : List Stretch). ps ++ (end_of c cuts, cut) ∷ []) (sym (parts_other from cuts c e))
 ]
 
 parts_from-again : (from : ℕ) (cuts : List ℕ) (cut : ℕ) → cut ≡ end_of from cuts → parts_from from (cuts ++ cut ∷ []) ≡ parts_from from cuts
@@ -67,11 +67,11 @@ module _ (b : ℕ → Bool) (len step : ℕ) where
       let few : (n + 1) * step ≤ (len - 1) / step * step = mul-le-mul_right step (omega arith) in
       omega (arith, most, few)
 
-  module _ (n : ℕ) (items : List Part) (last : ℕ) (are : items ≡ parts_from 0 (moved n)) (is : last ≡ end_of 0 (moved n)) where
+  module _ (n : ℕ) (items : List Stretch) (last : ℕ) (are : items ≡ parts_from 0 (moved n)) (is : last ≡ end_of 0 (moved n)) where
     -- the next multiple lies behind the last cut, and makes a part
     pub grown : last < (n + 1) * step → items ++ (last, boundary_from b len ((n + 1) * step)) ∷ [] ≡ parts_from 0 (moved (n + 1))
     grown less =
-        ap₂ (λ (ps : List Part) (p : ℕ). ps ++ (p, boundary_from b len ((n + 1) * step)) ∷ []) are is
+        ap₂ (λ (ps : List Stretch) (p : ℕ). ps ++ (p, boundary_from b len ((n + 1) * step)) ∷ []) are is
         ∙ sym (parts_from-push 0 (moved n) (boundary_from b len ((n + 1) * step)) (omega (arith, is, less)))
         ∙ ap (parts_from 0) (sym (moved-next n))
 
@@ -98,7 +98,7 @@ module _ (b : ℕ → Bool) (len step : ℕ) where
 
     -- the part up to the end, where there is one
     pub ended : last < len → items ++ (last, len) ∷ [] ≡ parts_from 0 (moved n ++ len ∷ [])
-    ended less = ap₂ (λ (ps : List Part) (p : ℕ). ps ++ (p, len) ∷ []) are is ∙ sym (parts_from-push 0 (moved n) len (omega (arith, is, less)))
+    ended less = ap₂ (λ (ps : List Stretch) (p : ℕ). ps ++ (p, len) ∷ []) are is ∙ sym (parts_from-push 0 (moved n) len (omega (arith, is, less)))
 
     pub ended_there : len ≤ last → last ≤ len → items ≡ parts_from 0 (moved n ++ len ∷ [])
     ended_there ge le = are ∙ sym (parts_from-again 0 (moved n) len (let e : len ≡ last = omega arith in e ∙ is))

@@ -1,4 +1,5 @@
 mod Forward
 mod Between
 pub mod Whole
-mod Strides
+pub mod Strides
+pub mod Numbered

@@ -6,20 +6,20 @@ use Rattle.std.proofs.lemmas.Grind.{div_ceil_times}
 use Rattle.std.proofs.lemmas.List.FromFn.{length-map-range_with_len, get_or-map-range_with_len}
 use Rattle.std.proofs.lemmas.Bool.{cases_lt}
 use Rattle.std.proofs.Math.Nat.{mul-le-mul_right}
-use Rattle.mr_defs.specs.Tasks.{Part, step_of, spans_of}
+use Rattle.mr_defs.specs.Tasks.{Stretch, step_of, spans_of}
 use Rattle.mr_split.specs.Pieces.{IsSpan}
 
 module _ (chunk items : ℕ) where
   abbrev step : ℕ
   step = step_of chunk items
 
-  abbrev span : ℕ → Part
+  abbrev span : ℕ → Stretch
   span t = (t * step, min ((t + 1) * step) items)
 
   pub length-spans_of : length (spans_of chunk items) ≡ div_ceil items step
   length-spans_of = length-map-range_with_len span 0 (div_ceil items step)
 
-  pub get_or-spans_of : (t : ℕ) (d : Part) → t < length (spans_of chunk items) → get_or (spans_of chunk items) t d ≡ (t * step, min (t * step + step) items)
+  pub get_or-spans_of : (t : ℕ) (d : Stretch) → t < length (spans_of chunk items) → get_or (spans_of chunk items) t d ≡ (t * step, min (t * step + step) items)
   get_or-spans_of t d below =
       get_or-map-range_with_len span 0 (div_ceil items step) t t d (let e : length (spans_of chunk items) ≡ div_ceil items step = length-spans_of in omega (arith, below, e)) (omega arith)
       ∙ (let next : (t + 1) * step ≡ t * step + step = omega arith in ap (λ k. (t * step, min k items)) next)

@@ -8,7 +8,7 @@ use Rattle.std.proofs.lemmas.List.Concat.{flat_map_single}
 use Rattle.std.proofs.lemmas.List.Elements.{All-nil, All-cons}
 use Rattle.std.proofs.Math.Seq.{take-add}
 use Rattle.std.proofs.Math.Nat.{div-mul-le_self, mul-le-mul_right}
-use Rattle.mr_defs.specs.Tasks.{Part, boundary_from, step_of, pieces_of, items_in, task_pairs}
+use Rattle.mr_defs.specs.Tasks.{Stretch, boundary_from, step_of, pieces_of, items_in, task_emissions}
 use Rattle.mr_defs.proofs.Joins.{IsChain}
 use Rattle.mr_defs.proofs.Chains.{pieces_of-IsChain}
 use Rattle.mr_split.specs.Pieces.{IsPiece, boundary_of}
@@ -66,7 +66,7 @@ module _ (b : ℕ → Bool) (len : ℕ) (end : b len ≡ true) where
   abbrev below : List ℕ → List ℕ
   below cuts = filter (λ p. nat_lt p len) cuts
 
-  abbrev between : ℕ → List ℕ → List Part
+  abbrev between : ℕ → List ℕ → List Stretch
   between from cuts = zip (from ∷ below cuts) (below cuts ++ len ∷ [])
 
   kept : (from cut : ℕ) (cuts : List ℕ) → cut ≤ len → Rises cut cuts → between from (dedup_from nat_eq cut cuts) ≡ cond (nat_lt cut len) ((from, cut) ∷ parts_from cut (cuts ++ len ∷ [])) ((from, len) ∷ [])
@@ -154,7 +154,7 @@ module _ (bytes : List ℕ) where
       ∙ sym (take-add (mid - from) (to - mid) (drop from bytes))
       ∙ ap (λ k. take k (drop from bytes)) size
 
-  slices : (from : ℕ) (parts : List Part) (to : ℕ) → IsChain from parts to → flat_map (λ part. slice part.0 part.1) parts ≡ slice from to
+  slices : (from : ℕ) (parts : List Stretch) (to : ℕ) → IsChain from parts to → flat_map (λ part. slice part.0 part.1) parts ≡ slice from to
   slices from [] to e = let none : 0 ≡ to - from = omega (arith, e) in ap (λ n. take n (drop from bytes)) none
   slices from (part ∷ parts) to c =
       ap (λ l. slice part.0 part.1 ++ l) (slices part.1 parts to c.3)
@@ -168,5 +168,5 @@ module _ (bytes : List ℕ) where
 alone : (xs : List ℕ) → flat_map (λ x. x ∷ []) xs ≡ xs
 alone xs = flat_map_single (λ x. x) xs ∙ map-id xs
 
-pub items_joined : (items : List ℕ) (parts : List Part) → flat_map (task_pairs (λ x. x ∷ []) items) parts ≡ flat_map (λ x. x ∷ []) items → flat_map (λ part. items_in part items) parts ≡ items
+pub items_joined : (items : List ℕ) (parts : List Stretch) → flat_map (task_emissions (λ x. x ∷ []) items) parts ≡ flat_map (λ x. x ∷ []) items → flat_map (λ part. items_in part items) parts ≡ items
 items_joined items parts e = sym (λ i. flat_map (λ part. alone (items_in part items) i) parts) ∙ e ∙ alone items

@@ -1,7 +1,7 @@
 ghost use Rattle.std.specs.Prelude.{◌≡◌, ◌≤◌, ◌<◌, Bool, ℕ, IfOk, filter, flat_map, length, slice_range};
 ghost use Rattle.std.specs.List.{All, range_with_len};
 ghost use Rattle.mr_defs.specs.Tasks.{items_in, pieces_of, spans_of};
-ghost use Rattle.mr_split.specs.Pieces.{ArePieces, IsPiece, IsSpan, boundary_of};
+ghost use Rattle.mr_split.specs.Pieces.{ArePieces, AreSpans, IsPiece, IsSpan, boundary_of};
 
 use crate::boundary::{Boundary, next_boundary};
 use crate::part::{Piece, Pieces, Spans, step};
@@ -68,6 +68,7 @@ pub fn spans(items: u64, chunk: u32) -> Spans
 
     // Which spans they are. Each has an item and ends with the last item at the latest.
     ensures exact { result ≡ spans_of chunk items }
+    ensures of_items { AreSpans items result }
     ensures few { length result ≤ 1048576 }
     ensures each { All (IsSpan items) result }
 
