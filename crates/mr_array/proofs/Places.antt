@@ -10,8 +10,9 @@ use Rattle.std.specs.Cmp.{nat_cmp_total}
 use Rattle.std.specs.FinMap.{find, nat_cmp-IsAntisymmetric}
 use Rattle.mr_defs.specs.Emission.{Emission, Pair}
 use Rattle.mr_defs.specs.Commutative.{IsCommutative, joined}
-use Rattle.mr_defs.specs.Stands.{Noted, StandsFor}
-use Rattle.mr_container.specs.Part.{IsPart}
+use Rattle.mr_defs.specs.Faulty.{Noted}
+use Rattle.mr_defs.specs.Stands.{StandsFor}
+use Rattle.mr_container.specs.Partition.{IsPartition}
 use Rattle.mr_container.proofs.Emitted.{after_pair}
 use Rattle.mr_container.proofs.Entries.{same_tied, tied_same, part_of_distinct}
 use Rattle.mr_array.specs.Cells.{is_below, cell_in, filled, numbered}
@@ -82,7 +83,7 @@ module _ {C : Type 0} where
   distinct (None ∷ cells) i = distinct cells (i + 1)
   distinct (Some c ∷ cells) i = (above cells (i + 1) i (omega arith), distinct cells (i + 1))
 
-  pub part_of_cells : (part_of : ℕ → ℕ) (part : ℕ) (cells : List (Option C)) → IsPart nat_cmp (cell_in cells) part_of part (filter (λ e. part_of e.0 == part) (numbered 0 cells))
+  pub part_of_cells : (part_of : ℕ → ℕ) (part : ℕ) (cells : List (Option C)) → IsPartition nat_cmp (cell_in cells) part_of part (filter (λ e. part_of e.0 == part) (numbered 0 cells))
   part_of_cells part_of part cells =
       let whole = part_of_distinct nat_cmp nat_cmp-IsAntisymmetric part_of part (numbered 0 cells) (distinct cells 0) in
       record {

@@ -90,6 +90,8 @@ impl<C: Combiner, const N: usize> Local for ArrayLocal<C, N> {
 
     ghost any_order = { λ s es fs p h. any_order nat_cmp_total nat_cmp-IsAntisymmetric (is_below N) C.laws C.unit_of _ _ _ es fs p h };
 
+    ghost same_refl = { λ _. (refl, refl) };
+
     ghost same_keeps = { λ s t e.
         (kept ⟦<NumKey as Ord>⟧.cmp (is_below N) C.unit_of C.merged _ _ _ _ _ _ (λ k. ap (λ cells. cell_in cells k) e.0) (ap filled e.0) e.1, e.1, ap filled e.0, λ k. refl) };
 

@@ -10,10 +10,11 @@ use Rattle.std.specs.FinMap.{IsAntisymmetric, find, is_sorted}
 use Rattle.std.specs.FinMap.Entries.{find-put, is_sorted-put}
 use Rattle.mr_defs.specs.Emission.{Emission, Pair}
 use Rattle.mr_defs.specs.Commutative.{IsCommutative, joined}
-use Rattle.mr_defs.specs.Stands.{Noted, StandsFor}
+use Rattle.mr_defs.specs.Faulty.{Noted}
+use Rattle.mr_defs.specs.Stands.{StandsFor}
 use Rattle.mr_container.proofs.Emitted.{after_pair}
-use Rattle.mr_container.proofs.Entries.{find_there, find_changed}
-use Rattle.mr_container.proofs.Parts.{sorted_distinct}
+use Rattle.mr_container.proofs.Entries.{find_there, find_set, find_changed, still_spared}
+use Rattle.mr_container.proofs.Partitions.{sorted_distinct}
 use Rattle.mr_container.proofs.Places.{put_here, put_gap, find_gap}
 
 module _ {K C : Type 0} {R : K → K → Ordering} (o : IsTotalOrder R) (entries : List (K × C)) (sorted : T (is_sorted R entries)) where
@@ -22,6 +23,15 @@ module _ {K C : Type 0} {R : K → K → Ordering} (o : IsTotalOrder R) (entries
 
   pub sorted_insert : (k : K) (v : C) (i : ℕ) → i ≤ length entries → IsPartitionPoint (λ e. R e.0 k ≡ Less) (λ e. R e.0 k ≡ Greater) entries i → T (is_sorted R (insert entries i (k, v)))
   sorted_insert k v i p g = subst (λ l. T (is_sorted R l)) (put_gap o k v entries i p g) (is_sorted-put R o k v entries sorted)
+
+  -- a key that has a cell keeps one
+  pub spared_here : IsAntisymmetric R → (fixed : Bool) (q : K) (new : C) (i : ℕ) (e : K × C) → i < length entries → e ≡ get_or entries i e
+      → (fixed && is_some (find R q entries)) ≡ true → (fixed && is_some (find R q (set entries i (e.0, new)))) ≡ true
+  spared_here one fixed q new i e p is = still_spared fixed (eq_by_cmp R q e.0) new _ _ (find_set o one q new entries i e (sorted_distinct R entries sorted) p is)
+
+  pub spared_gap : (fixed : Bool) (q k : K) (new : C) (i : ℕ) → i ≤ length entries → IsPartitionPoint (λ e. R e.0 k ≡ Less) (λ e. R e.0 k ≡ Greater) entries i
+      → (fixed && is_some (find R q entries)) ≡ true → (fixed && is_some (find R q (insert entries i (k, new)))) ≡ true
+  spared_gap fixed q k new i p g = still_spared fixed (eq_by_cmp R q k) new _ _ (ap (find R q) (sym (put_gap o k new entries i p g)) ∙ find-put R o q k new entries)
 
   module _ {V : Type 0} (one : IsAntisymmetric R) {merged : C → C → C} (laws : IsCommutative merged) (unit : V → C) (number : ℕ) (noted : Noted K) (es : List (Emission K V)) (was : StandsFor R (λ _. true) unit merged (λ k. find R k entries) number noted es) where
     pub emitted_here : (k : K) (v : V) (i : ℕ) (e : K × C) (new : C) → i < length entries → e ≡ get_or entries i e → R e.0 k ≡ Equal → new ≡ merged e.1 (unit v)

@@ -8,10 +8,12 @@ use Rattle.std.specs.FinMap.{IsAntisymmetric, nat_cmp-IsAntisymmetric}
 use Rattle.std.proofs.lemmas.List.Elements.{filter_map-append}
 use Rattle.std.proofs.lemmas.Bool.{true≢false}
 use Rattle.mr_defs.specs.Emission.{Emission, Pair, TooLarge, Malformed}
-use Rattle.mr_defs.specs.Commutative.{IsCommutative, joined, joined-none, joined_by-push}
+use Rattle.mr_defs.specs.Commutative.{IsCommutative, joined}
+use Rattle.mr_defs.specs.CommutativeLaws.{joined-none, joined_by-push}
 use Rattle.mr_defs.specs.Keyed.{at, ascending, pair_key, any_key, large_key, malformed_offset, value_at, lesser}
 use Rattle.mr_defs.specs.Rows.{cells_of}
-use Rattle.mr_defs.specs.Stands.{Noted, IsNotedOf, StandsFor, cell_of}
+use Rattle.mr_defs.specs.Faulty.{Noted}
+use Rattle.mr_defs.specs.Stands.{IsNotedOf, StandsFor, cell_of}
 use Rattle.mr_defs.proofs.Lesser.{lesser_commutative}
 use Rattle.mr_defs.proofs.Readings.{passing, malformed_read, outside_read, large_read}
 use Rattle.mr_container.proofs.Orders.{is_Equal}

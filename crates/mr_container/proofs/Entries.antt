@@ -1,5 +1,5 @@
 -- Entries with distinct keys, in any order.
-use Rattle.std.proofs.Common.{◌≡◌, ℕ, zero, suc, ◌<◌, ◌==◌, Bool, true, false, cond, List, [], ◌∷◌, ◌++◌, length, get_or, set, map, filter, Some, None, refl, sym, ap, ◌∙◌, arith}
+use Rattle.std.proofs.Common.{◌≡◌, ℕ, zero, suc, ◌<◌, ◌==◌, Bool, true, false, ◌&&◌, cond, List, [], ◌∷◌, ◌++◌, length, get_or, set, map, filter, Option, Some, None, is_some, refl, sym, ap, ◌∙◌, arith}
 use Rattle.std.specs.List.{IsDistinct, AllByRecursion}
 use Rattle.std.specs.declared.cmp.Ordering.{Ordering}
 use Rattle.std.specs.declared.cmp.Ordering.TheVariants.{Equal}
@@ -11,7 +11,7 @@ use Rattle.std.proofs.lemmas.Map.Keys.{IsDistinct-head, IsDistinct-tail}
 use Rattle.std.proofs.lemmas.Map.Made.{IsDistinct-keys_filter}
 use Rattle.std.proofs.lemmas.Bool.{true≢false}
 use Rattle.mr_defs.specs.Commutative.{joined}
-use Rattle.mr_container.specs.Part.{IsPart}
+use Rattle.mr_container.specs.Partition.{IsPartition}
 use Rattle.mr_container.proofs.Orders.{is_Equal}
 
 -- two tests that are not both met, in either order
@@ -50,8 +50,8 @@ module _ {K C : Type 0} (R : K → K → Ordering) where
   head_differs x (p ∷ ps) zero e h l is = ap (λ y. eq_by_cmp R x y.0) is ∙ h.0
   head_differs x (p ∷ ps) (suc i) e h l is = head_differs x ps i e h.1 (omega (arith, l)) is
 
-  -- the entries of one part
-  pub part_of_distinct : IsAntisymmetric R → (part_of : K → ℕ) (part : ℕ) (ps : List (K × C)) → IsDistinct (eq_by_cmp R) (map (λ p. p.0) ps) → IsPart R (λ k. find R k ps) part_of part (filter (λ p. part_of p.0 == part) ps)
+  -- the entries of one partition
+  pub part_of_distinct : IsAntisymmetric R → (part_of : K → ℕ) (part : ℕ) (ps : List (K × C)) → IsDistinct (eq_by_cmp R) (map (λ p. p.0) ps) → IsPartition R (λ k. find R k ps) part_of part (filter (λ p. part_of p.0 == part) ps)
   part_of_distinct one part_of part ps h = record {
     distinct = IsDistinct-keys_filter (eq_by_cmp R) (λ p. part_of p.0 == part) ps h;
     found = λ k. find-where_key R (λ q. part_of q == part) k (λ x e. ap (λ q. part_of q == part) (sym (one k x e))) ps;
@@ -65,7 +65,7 @@ module _ {K C : Type 0} {R : K → K → Ordering} (o : IsTotalOrder R) (one : I
       ap (λ t. cond t (Some p.1) (find R e.0 ps)) (turned o one p.0 e.0 (head_differs R p.0 ps i e (IsDistinct-head _ _ _ h) (omega (arith, l)) is))
       ∙ find_at ps i e (IsDistinct-tail _ _ _ h) (omega (arith, l)) is
 
-  find_set : (q : K) (v : C) (ps : List (K × C)) (i : ℕ) (e : K × C) → IsDistinct (eq_by_cmp R) (map (λ p. p.0) ps) → i < length ps → e ≡ get_or ps i e → find R q (set ps i (e.0, v)) ≡ cond (eq_by_cmp R q e.0) (Some v) (find R q ps)
+  pub find_set : (q : K) (v : C) (ps : List (K × C)) (i : ℕ) (e : K × C) → IsDistinct (eq_by_cmp R) (map (λ p. p.0) ps) → i < length ps → e ≡ get_or ps i e → find R q (set ps i (e.0, v)) ≡ cond (eq_by_cmp R q e.0) (Some v) (find R q ps)
   find_set q v [] i e h l is = absurd (omega (arith, l))
   find_set q v (p ∷ ps) zero e h l is = elim (eq_by_cmp R q e.0) as (λ t. eq_by_cmp R q e.0 ≡ t → cond t (Some v) (find R q ps) ≡ cond t (Some v) (cond (eq_by_cmp R q p.0) (Some p.1) (find R q ps))) [
     | true ↦ λ n. refl
@@ -93,3 +93,10 @@ module _ {K C : Type 0} {R : K → K → Ordering} (o : IsTotalOrder R) (one : I
     find_pushed none n q =
         find-append R o ps k new q none
         ∙ ap (λ x. cond (eq_by_cmp R q k) x (find R q ps)) (ap Some n ∙ ap (λ x. joined merged x (Some unit)) (sym none))
+
+-- a key that has a cell still has one where one is put
+pub still_spared : {C : Type 0} (fixed put : Bool) (new : C) (was now : Option C) → now ≡ cond put (Some new) was
+    → (fixed && is_some was) ≡ true → (fixed && is_some now) ≡ true
+still_spared true true new was now e h = ap (λ c. is_some c) e
+still_spared false true new was now e h = h
+still_spared fixed false new was now e h = ap (λ c. fixed && is_some c) e ∙ h

@@ -5,4 +5,5 @@ pub mod Emitted
 pub mod Entries
 pub mod Places
 pub mod Ascending
-pub mod Parts
+pub mod Partitions
+pub mod Blocks

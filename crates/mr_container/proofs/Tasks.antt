@@ -17,15 +17,15 @@ module _ {A : Type 0} (f : ℕ → List A) (es : List A) where
   tasks_more n = flat_map_more f es (range_with_len 0 n) n ∙ ap (λ l. es ++ flat_map f l) (sym (range_more n))
 
   -- how much of what all tasks emit that is
-  abbrev pub first_part : ℕ → ℕ → ℕ
-  first_part n k = length (flat_map f (range_with_len 0 n)) + min k (length (f n))
+  abbrev pub front_length : ℕ → ℕ → ℕ
+  front_length n k = length (flat_map f (range_with_len 0 n)) + min k (length (f n))
 
-  -- a first part of a task is a first part of all tasks
-  pub tasks_some : (n k total : ℕ) → n < total → (es ++ flat_map f (range_with_len 0 n)) ++ take k (f n) ≡ es ++ take (first_part n k) (flat_map f (range_with_len 0 total))
+  -- a front of a task is a front of all tasks
+  pub tasks_some : (n k total : ℕ) → n < total → (es ++ flat_map f (range_with_len 0 n)) ++ take k (f n) ≡ es ++ take (front_length n k) (flat_map f (range_with_len 0 total))
   tasks_some n k total h =
       append_assoc es _ _
       ∙ ap (λ l. es ++ (flat_map f (range_with_len 0 n) ++ l)) (sym (take_min k (f n)) ∙ sym (take-append-le (min k (length (f n))) (f n) (flat_map f (range_with_len (0 + n + 1) (total - (n + 1)))) (omega arith)))
-      ∙ ap (λ l. es ++ l) (sym (take-append-add (flat_map f (range_with_len 0 n)) (f n ++ flat_map f (range_with_len (0 + n + 1) (total - (n + 1)))) (min k (length (f n)))) ∙ ap (take (first_part n k)) (sym whole))
+      ∙ ap (λ l. es ++ l) (sym (take-append-add (flat_map f (range_with_len 0 n)) (f n ++ flat_map f (range_with_len (0 + n + 1) (total - (n + 1)))) (min k (length (f n)))) ∙ ap (take (front_length n k)) (sym whole))
     where
       same : 0 + n ≡ n
       same = omega arith

@@ -6,9 +6,11 @@ use Rattle.std.specs.Cmp.{IsTotalOrder, nat_cmp_total}
 use Rattle.std.specs.FinMap.{IsAntisymmetric, nat_cmp-IsAntisymmetric}
 use Rattle.std.proofs.Common.{sym, ap, subst, ◌∙◌, arith}
 use Rattle.mr_defs.specs.Emission.{Emission}
-use Rattle.mr_defs.specs.Commutative.{IsCommutative, joined_by-IsPermutation}
+use Rattle.mr_defs.specs.Commutative.{IsCommutative}
+use Rattle.mr_defs.specs.CommutativeLaws.{joined_by-IsPermutation}
 use Rattle.mr_defs.specs.Keyed.{at, any_key, large_key, malformed_offset}
-use Rattle.mr_defs.specs.Stands.{Noted, IsNotedOf, StandsFor}
+use Rattle.mr_defs.specs.Faulty.{Noted}
+use Rattle.mr_defs.specs.Stands.{IsNotedOf, StandsFor}
 use Rattle.mr_defs.proofs.Lesser.{lesser_commutative}
 use Rattle.mr_defs.proofs.Readings.{passing, malformed_read, outside_read, large_read}
 use Rattle.mr_defs.proofs.SameRows.{cells_of-IsPermutation}

@@ -1,2 +1,3 @@
-pub mod Part
+pub mod Partition
 pub mod Laws
+pub mod Block

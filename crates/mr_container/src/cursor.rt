@@ -1,9 +1,9 @@
-/// A place in a part of a local.
+/// A place in a partition of a local.
 #[derive(Clone, Copy, Debug)]
 pub struct Cursor {
-    /// The part that is read.
+    /// The partition that is read.
     pub part: u32,
-    /// The number of parts.
+    /// The number of partitions.
     pub parts: u32,
     /// Where the container goes on; only its own calls read it.
     pub place: u64,

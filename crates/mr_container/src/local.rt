@@ -1,8 +1,9 @@
-ghost use Rattle.std.specs.Prelude.{◌≡◌, ℕ, ◌++◌, ◌∷◌, [], List, Bool, OnOk, OnErr, IsOk, IsTrue};
+ghost use Rattle.std.specs.Prelude.{◌≡◌, ℕ, ◌++◌, ◌∷◌, [], List, All, Bool, take, vec_capacity, OnOk, OnErr, IsOk, IsTrue};
 ghost use Rattle.std.specs.List.Sorted.{IsPermutation};
 ghost use Rattle.mr_defs.specs.Emission.{Emission, Pair, TooLarge, Malformed};
-ghost use Rattle.mr_defs.specs.Stands.{Noted};
+ghost use Rattle.mr_defs.specs.Faulty.{Noted};
 ghost use Rattle.mr_base.specs.Noting.{noted_of};
+ghost use Rattle.mr_container.specs.Block.{block_emissions};
 
 use mr_base::{Emitted, Faults, Key, Memory};
 
@@ -40,7 +41,28 @@ pub trait Local: Drop {
         ensures ok { OnOk result ((es : List (Emission Self.Key Self.Value)) → stands self.old es → stands self.new (es ++ Pair key value ∷ [])) }
         ensures err { OnErr result (same self.old self.new) }
         ensures no_memory { IsTrue (spares self.old key) → IsOk result }
+        ensures spares { (k : Self.Key) → IsTrue (spares self.old k) → IsTrue (spares self.new k) }
         ensures origin { same_origin self.old self.new };
+
+    /// Emits the pairs of a block in their order, and leaves the block empty; its room stays.
+    ///
+    /// A container may look for the places of all the block's keys before it goes to any of them, so that their loads run side by side:
+    /// a mapper fills a block of some hundred pairs and hands it over. After `Memory` the pairs of a front of the block were emitted.
+    fn emit_block(&mut self, block: &mut Vec<(Self::Key, Self::Value)>) -> Result<(), Memory>
+        requires { All (λ p. Self.Key.allowed p.0 × Self.Value.allowed p.1) block.old.items }
+        ensures ok { OnOk result ((es : List (Emission Self.Key Self.Value)) → stands self.old es → stands self.new (es ++ block_emissions block.old.items)) }
+        ensures err { OnErr result ((es : List (Emission Self.Key Self.Value)) → stands self.old es
+            → (n : ℕ) × stands self.new (es ++ take n (block_emissions block.old.items))) }
+        ensures no_memory { All (λ p. IsTrue (spares self.old p.0)) block.old.items → IsOk result }
+        ensures empty { block.new.items ≡ [] }
+        ensures room { vec_capacity block.new ≡ vec_capacity block.old }
+        ensures origin { same_origin self.old self.new }
+    {
+        for (key, value) in block.drain(..) {
+            self.emit(key, value)?;
+        }
+        Ok(())
+    }
 
     /// Notes that the key has a value which is too large. Takes no memory.
     fn too_large(&mut self, key: Self::Key)
@@ -62,6 +84,8 @@ pub trait Local: Drop {
         ensures { noted_of result.now ≡ noted self.now };
 
     ghost any_order: { (s : Self) (es fs : List (Emission Self.Key Self.Value)) → IsPermutation es fs → stands s es → stands s fs };
+
+    ghost same_refl: { (s : Self) → same s s };
 
     ghost same_keeps: { (s t : Self) → same s t
         → ((es : List (Emission Self.Key Self.Value)) → stands s es → stands t es)

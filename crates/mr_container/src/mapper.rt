@@ -15,13 +15,13 @@ pub trait Mapper {
     ghost task_count: { Self → ℕ };
 
     /// What a task emits, in its order.
-    ghost task_pairs: { Self → ℕ → List (Emission Self.Key Self.Value) };
+    ghost task_emissions: { Self → ℕ → List (Emission Self.Key Self.Value) };
 
     /// The number of tasks.
     fn tasks(&self) -> u32
         ensures { result ≡ task_count self.now };
 
-    /// Emits what the task has, in its order. After `Memory` a first part of that was emitted.
+    /// Emits what the task has, in its order. After `Memory` a front of that was emitted.
     fn map<L: Local<Key = Self::Key, Value = Self::Value>>(
         &self,
         alloc: Global,
@@ -29,21 +29,21 @@ pub trait Mapper {
         out: &mut L,
     ) -> Result<(), Memory>
         requires { task < task_count self.now }
-        ensures ok { OnOk result ((es : List (Emission Self.Key Self.Value)) → L.stands out.old es → L.stands out.new (es ++ task_pairs self.now task)) }
-        ensures err { OnErr result ((es : List (Emission Self.Key Self.Value)) → L.stands out.old es → (n : ℕ) × L.stands out.new (es ++ take n (task_pairs self.now task))) }
+        ensures ok { OnOk result ((es : List (Emission Self.Key Self.Value)) → L.stands out.old es → L.stands out.new (es ++ task_emissions self.now task)) }
+        ensures err { OnErr result ((es : List (Emission Self.Key Self.Value)) → L.stands out.old es → (n : ℕ) × L.stands out.new (es ++ take n (task_emissions self.now task))) }
         ensures origin { L.same_origin out.old out.new };
 }
 
-/// Maps all tasks in their order. After `Memory` a first part of what they emit was emitted.
+/// Maps all tasks in their order. After `Memory` a front of what they emit was emitted.
 pub fn map_all<L: Local, M: Mapper<Key = L::Key, Value = L::Value>>(
     alloc: Global,
     mapper: &M,
     out: &mut L,
 ) -> Result<(), Memory>
     ensures ok { OnOk result ((es : List (Emission L.Key L.Value)) → L.stands out.old es
-        → L.stands out.new (es ++ flat_map (M.task_pairs mapper.now) (range_with_len 0 (M.task_count mapper.now)))) }
+        → L.stands out.new (es ++ flat_map (M.task_emissions mapper.now) (range_with_len 0 (M.task_count mapper.now)))) }
     ensures err { OnErr result ((es : List (Emission L.Key L.Value)) → L.stands out.old es
-        → (n : ℕ) × L.stands out.new (es ++ take n (flat_map (M.task_pairs mapper.now) (range_with_len 0 (M.task_count mapper.now))))) }
+        → (n : ℕ) × L.stands out.new (es ++ take n (flat_map (M.task_emissions mapper.now) (range_with_len 0 (M.task_count mapper.now))))) }
     ensures origin { L.same_origin out.old out.new }
 {
     for task in 0..mapper.tasks() {

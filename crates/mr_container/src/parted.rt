@@ -1,16 +1,18 @@
 ghost use Rattle.std.specs.Prelude.{◌≡◌, ℕ, ◌<◌, ◌≤◌, ◌∷◌, [], List, Bool, true, false, is_some, Option, MatchOption};
 ghost use Rattle.mr_defs.specs.Emission.{Emission};
 ghost use Rattle.mr_defs.specs.Stands.{StandsFor};
-ghost use Rattle.mr_container.specs.Part.{IsPart};
+ghost use Rattle.mr_container.specs.Partition.{IsPartition};
 ghost use Rattle.mr_container.specs.declared.cursor.Cursor.{Cursor};
 
 use crate::cursor::Cursor;
 use crate::local::Local;
+use mr_base::Memory;
 use mr_combine::Combiner;
+use std::alloc::Global;
 
-/// A local whose keys and cells are read part by part.
+/// A local whose keys and cells are read partition by partition.
 ///
-/// Each key has one part, and all locals of a type agree on it. `Fold` is the combiner of the cells.
+/// Each key has one partition, its part of so many parts, and all locals of a type agree on it. `Fold` is the combiner of the cells.
 pub trait Parted: Local {
     type Fold: Combiner<Value = Self::Value>;
 
@@ -19,7 +21,7 @@ pub trait Parted: Local {
 
     ghost cell: { Self → Self.Key → Option Self.Fold.Cell };
 
-    /// The part of a key, of so many parts.
+    /// The number of a key's partition, of so many.
     ghost part_of: { ℕ → Self.Key → ℕ };
 
     /// The cursor is one of this local.
@@ -28,15 +30,28 @@ pub trait Parted: Local {
     /// The keys and cells that are ahead of a cursor.
     ghost left: { Self → Cursor → List (Self.Key × Self.Fold.Cell) };
 
-    /// A cursor at the beginning of a part, where `parts` is from 1 to 64.
+    /// Arranges the keys by partition, for the number of partitions by which they will be read, so that a cursor passes over no other partition's
+    /// keys. Nothing that contracts see changes, and cursors serve as well without it.
+    ///
+    /// By default it does nothing. For a container that has many keys, so that 64 partitions are read in little more time than one.
+    fn arrange(&mut self, _alloc: Global, _parts: u32) -> Result<(), Memory>
+        requires some { 1 ≤ _parts }
+        requires few { _parts ≤ 64 }
+        ensures same { Self.same self.old self.new }
+        ensures origin { Self.same_origin self.old self.new }
+    {
+        Ok(())
+    }
+
+    /// A cursor at the beginning of a partition, where `parts`, the number of partitions, is from 1 to 64.
     fn cursor(&self, part: u32, parts: u32) -> Cursor
         requires some { 1 ≤ parts }
         requires few { parts ≤ 64 }
         requires part { part < parts }
         ensures stands { stands_in self.now result }
-        ensures all { IsPart Self.Key.cmp (cell self.now) (part_of parts) part (left self.now result) };
+        ensures all { IsPartition Self.Key.cmp (cell self.now) (part_of parts) part (left self.now result) };
 
-    /// The next key of the cursor's part with its cell, or None exactly where none is left.
+    /// The next key of the cursor's partition with its cell, or None exactly where none is left.
     fn next(&self, cursor: &mut Cursor) -> Option<(&Self::Key, &<Self::Fold as Combiner>::Cell)>
         requires { stands_in self.now cursor.old }
         ensures stands { stands_in self.now cursor.new }

@@ -3,7 +3,7 @@ ghost use Rattle.std.specs.FinMap.{find, is_sorted};
 ghost use Rattle.std.specs.List.{HoldsAt};
 ghost use Rattle.std.specs.List.Sorted.{IsPartitionPoint, IsSearchInRange, IsStrictlySortedBy};
 ghost use Rattle.std.specs.declared.cmp.Ordering.TheVariants.{Less, Equal, Greater};
-ghost use Rattle.std.proofs.Common.{sym, ap, ◌∙◌};
+ghost use Rattle.std.proofs.Common.{refl, sym, ap, ◌∙◌};
 ghost use Rattle.mr_defs.specs.Stands.{StandsFor};
 ghost use Rattle.mr_base.specs.Noting.{noted_of};
 ghost use Rattle.mr_container.specs.Laws.{any_order, kept};
@@ -18,7 +18,7 @@ use std::cmp::Ordering;
 
 /// Keys with their cells, in one list that ascends by key.
 ///
-/// The plain container: every key is inside, the part of a key is its hash modulo the number of parts, and a cursor gives its keys
+/// The plain container: every key is inside, the partition of a key is its hash modulo their number, and a cursor gives its keys
 /// ascending.
 #[derive(Drop)]
 pub struct SortedLocal<K: Key, C: Combiner> {
@@ -75,6 +75,8 @@ impl<K: Key, C: Combiner> Local for SortedLocal<K, C> {
     ghost spares = { λ s k. C.fixed && is_some (find K.cmp k s.entries.items) };
 
     ghost any_order = { λ s es fs p h. any_order K.total K.only_equal_tie (λ _. true) C.laws C.unit_of _ _ _ es fs p h };
+
+    ghost same_refl = { λ _. (refl, refl) };
 
     ghost same_keeps = { λ s t e.
         let count = t.entries.ok.0 ∙ ap length e.0 ∙ sym s.entries.ok.0 in

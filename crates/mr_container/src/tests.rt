@@ -7,7 +7,7 @@ use mr_combine::{Single, Sum};
 use std::alloc::Global;
 use std::test::Fail;
 
-// Appends the keys and sums of a part, in the order in which they are read.
+// Appends the keys and sums of a partition, in the order in which they are read.
 fn show_part<L: Parted<Value = i64, Fold = Sum>>(
     local: &L,
     part: u32,
@@ -28,7 +28,7 @@ fn show_part<L: Parted<Value = i64, Fold = Sum>>(
     Ok(())
 }
 
-// All parts, one after the other.
+// All partitions, one after the other.
 fn shown<L: Parted<Value = i64, Fold = Sum>>(
     alloc: Global,
     local: &L,
@@ -109,7 +109,7 @@ impl Mapper for Backward {
 
     ghost task_count = { λ m. m.count };
 
-    ghost task_pairs = { λ m t. Pair (m.count - 1 - t) (pos 2) ∷ [] };
+    ghost task_emissions = { λ m t. Pair (m.count - 1 - t) (pos 2) ∷ [] };
 
     fn tasks(&self) -> u32 {
         self.count

@@ -1,7 +1,7 @@
 use Rattle.std.proofs.Common.{true, ap, ◌==◌, ◌%◌}
 use Rattle.std.specs.FinMap.{find}
 use Rattle.mr_container.proofs.Emitted.{stands_empty}
-use Rattle.mr_container.proofs.Parts.{part_ascends}
+use Rattle.mr_container.proofs.Partitions.{part_ascends}
 use Rattle.mr_container.proofs.sorted.SortedLocal.new.Goals as goal
 
 pub returns-clause-empty : goal.returns-clause-empty

@@ -1,7 +1,7 @@
 use Rattle.std.proofs.Common.{◌<◌, ◌≤◌, subst, ap, ◌∙◌, T}
 use Rattle.std.specs.FinMap.{is_sorted}
 use Rattle.mr_container.proofs.Places.{find_gap}
-use Rattle.mr_container.proofs.Ascending.{not_spared, sorted_set, sorted_insert, emitted_here_ok, emitted_gap, either_list}
+use Rattle.mr_container.proofs.Ascending.{not_spared, sorted_set, sorted_insert, emitted_here_ok, emitted_gap, either_list, spared_here, spared_gap}
 use Rattle.mr_container.proofs.sorted.SortedLocalLocal.emit.Goals as goal
 
 pub invariant_of-self : goal.invariant_of-self
@@ -25,3 +25,14 @@ returns-in_ok-insert-in-Err-clause-ok g c es was =
 pub returns-in_err-insert-in-Err-clause-no_memory :
     goal.returns-in_err-insert-in-Err-clause-no_memory
 returns-in_err-insert-in-Err-clause-no_memory g c spared = absurd (not_spared g.C.Combiner.fixed _ (find_gap g.met.K.Ord.total c.args.key _ _ (subst (λ n. c.in-Err.at ≤ n) c.args.self.now.entries.ok.0 c.in-Err.ensures.range) c.in-Err.ensures.absent) spared)
+
+pub returns-in-Ok-clause-spares : goal.returns-in-Ok-clause-spares
+returns-in-Ok-clause-spares g c q =
+    spared_here g.met.K.Ord.total _ c.args.self.now.ascending g.met.K.Key.only_equal_tie g.C.Combiner.fixed q _ _ _
+    (subst (λ n. c.in-Ok.at < n) c.args.self.now.entries.ok.0 c.in-Ok.ensures.range) c.index_mut-entry.ensures.value
+
+pub returns-in_ok-insert-in-Err-clause-spares :
+    goal.returns-in_ok-insert-in-Err-clause-spares
+returns-in_ok-insert-in-Err-clause-spares g c q =
+    rw c.in_ok-insert-in-Err.ensures.items (spared_gap g.met.K.Ord.total _ c.args.self.now.ascending g.C.Combiner.fixed q c.args.key _ _
+    (subst (λ n. c.in-Err.at ≤ n) c.args.self.now.entries.ok.0 c.in-Err.ensures.range) c.in-Err.ensures.absent)
