@@ -1,4 +1,4 @@
-pub mod Indexing
-pub mod Finding
-pub mod Spread
-pub mod Reading
+mod Finding
+mod Indexing
+mod Chaining
+mod Whole

@@ -1,3 +1,4 @@
 pub mod Slots
 pub mod Pairs
-pub mod Tables
+pub mod Buckets
+pub mod Chaining

@@ -1,19 +1,19 @@
-ghost use Rattle.std.specs.Prelude.{◌≤◌, ◌<◌};
+ghost use Rattle.std.specs.Prelude.{◌≤◌, ◌<◌, All, IfOk, length};
 
 use crate::HashLocal;
-use mr_base::{ByteKey, Key, Memory, NumKey, Text};
-use mr_combine::{Single, Sum};
+use mr_base::{ByteKey, Emitted, Key, Memory, SliceKey, Text, TextKey};
+use mr_combine::{Buffer, Combiner, List, Plain, Reducer, Sum};
 use mr_container::{Local, Parted, SortedLocal};
 use std::alloc::Global;
 use std::test::Fail;
 
-// Puts in the keys and sums of a part.
-fn gather_part<L: Parted<Key = ByteKey, Value = i64, Fold = Sum>>(
+// Puts in what each key of a partition comes to, as a line.
+fn gather<L: Parted<Value = i64>, R: Reducer<L::Fold>>(
     alloc: Global,
     local: &L,
     part: u32,
     parts: u32,
-    entries: &mut Vec<(ByteKey, i128)>,
+    lines: &mut Vec<ByteKey>,
 ) -> Result<(), Memory>
     requires some { 1 ≤ parts }
     requires few { parts ≤ 64 }
@@ -21,13 +21,20 @@ fn gather_part<L: Parted<Key = ByteKey, Value = i64, Fold = Sum>>(
 {
     let mut cursor = local.cursor(part, parts);
     while let Some((key, cell)) = local.next(&mut cursor) {
-        entries.push((key.copy(alloc)?, Sum::number(cell)))?;
+        let answer = R::reduce(alloc, L::Fold::copy(alloc, cell)?)?;
+        let mut line = Text::new(alloc);
+        key.print(&mut line)?;
+        for i in 0..answer.len() {
+            line.push(b" ")?;
+            line.push_number(answer.number(i))?;
+        }
+        lines.push(ByteKey::of(alloc, line.as_bytes())?)?;
     }
     Ok(())
 }
 
-// The keys and sums of all parts, ascending by key.
-fn shown<L: Parted<Key = ByteKey, Value = i64, Fold = Sum>>(
+// The lines of all partitions, in their order.
+fn shown<L: Parted<Value = i64>, R: Reducer<L::Fold>>(
     alloc: Global,
     local: &L,
     parts: u32,
@@ -35,85 +42,132 @@ fn shown<L: Parted<Key = ByteKey, Value = i64, Fold = Sum>>(
     requires some { 1 ≤ parts }
     requires few { parts ≤ 64 }
 {
-    let mut entries = Vec::new(alloc);
+    let mut lines = Vec::new(alloc);
     for part in 0..parts {
-        gather_part(alloc, local, part, parts, &mut entries)?;
+        gather::<L, R>(alloc, local, part, parts, &mut lines)?;
     }
-    entries.sort_by(|one: &(ByteKey, i128), other: &(ByteKey, i128)| one.0.cmp(&other.0))?;
+    lines.sort()?;
     let mut text = Text::new(alloc);
-    for (key, sum) in &entries {
-        key.print(&mut text)?;
-        text.push(b"=")?;
-        text.push_number(*sum)?;
-        text.push(b" ")?;
+    for line in &lines {
+        text.push(line.as_bytes())?;
+        text.push(b"\n")?;
     }
     Ok(text)
 }
 
-// Emits some keys many times.
-fn fill<L: Local<Key = ByteKey, Value = i64>>(alloc: Global, local: &mut L) -> Result<(), Memory> {
-    for i in 0..4000u32 {
-        let n = i * 7 % 900;
-        let key = [
-            97 + (n % 10) as u8,
-            97 + (n / 10 % 10) as u8,
-            97 + (n / 100) as u8,
-        ];
-        let value = (i % 9) as i8 - 4;
-        local.emit(ByteKey::of(alloc, &key)?, value as i64)?;
+// Puts a pair into the block: of some 900 keys of up to 23 bytes one that comes in its turn.
+fn push_pair<'a, K: TextKey<'a>>(
+    alloc: Global,
+    words: &'a [u8],
+    turn: u32,
+    block: &mut Vec<(K, i64)>,
+) -> Result<(), Memory>
+    requires words { 63 ≤ length words.now }
+    requires allowed { All (λ p. K.allowed p.0 × ⟦<i64 as Emitted>⟧.allowed p.1) block.old.items }
+    ensures { All (λ p. K.allowed p.0 × ⟦<i64 as Emitted>⟧.allowed p.1) block.new.items }
+{
+    let from = (turn as usize).wrapping_mul(7) % 40;
+    let to = from + (turn as usize) / 40 % 24;
+    let key = K::part_of(alloc, words, from, to, turn % 3 == 0)?;
+    block.push((key, (turn % 9) as i64 - 4))?;
+    Ok(())
+}
+
+// A block of as many pairs, from a turn on.
+fn block_of<'a, K: TextKey<'a>>(
+    alloc: Global,
+    words: &'a [u8],
+    turn: u32,
+    pairs: u32,
+) -> Result<Vec<(K, i64)>, Memory>
+    requires { 63 ≤ length words.now }
+    ensures { IfOk result (λ block. All (λ p. K.allowed p.0 × ⟦<i64 as Emitted>⟧.allowed p.1) block.items) }
+{
+    let mut block = Vec::new(alloc);
+    for nth in 0..pairs {
+        push_pair(alloc, words, turn.wrapping_add(nth), &mut block)?;
+    }
+    Ok(block)
+}
+
+// Emits blocks of pairs, longer than what is looked for side by side.
+fn fill<'a, K: TextKey<'a>, L: Local<Key = K, Value = i64>>(
+    alloc: Global,
+    words: &'a [u8],
+    blocks: u32,
+    local: &mut L,
+) -> Result<(), Memory>
+    requires { 63 ≤ length words.now }
+{
+    for nth in 0..blocks {
+        let mut block = block_of(alloc, words, nth.wrapping_mul(300), 300)?;
+        local.emit_block(&mut block)?;
     }
     Ok(())
 }
 
-fn same_as_plain<const N: usize>(alloc: Global, parts: u32) -> Result<bool, Memory>
+// Whether both containers come to the same, read plainly, arranged, and with pairs after that.
+fn same_as_plain<'a, K: TextKey<'a>, C: Combiner<Value = i64>, R: Reducer<C>, const N: usize>(
+    alloc: Global,
+    words: &'a [u8],
+    parts: u32,
+) -> Result<bool, Memory>
     requires some { 1 ≤ N }
     requires most { N ≤ 65536 }
+    requires words { 63 ≤ length words.now }
     requires some_parts { 1 ≤ parts }
     requires few_parts { parts ≤ 64 }
 {
-    let mut plain: SortedLocal<ByteKey, Sum> = SortedLocal::new(alloc);
-    fill(alloc, &mut plain)?;
-    let mut local: HashLocal<ByteKey, Sum, N> = HashLocal::new(alloc)?;
-    fill(alloc, &mut local)?;
-    let same = shown(alloc, &plain, 1)?.as_bytes() == shown(alloc, &local, parts)?.as_bytes();
-    Ok(same && local.cells() == 900 && plain.cells() == 900)
+    let mut plain: SortedLocal<K, C> = SortedLocal::new(alloc);
+    let mut local: HashLocal<K, C, N> = HashLocal::new(alloc)?;
+    let mut same = true;
+    for blocks in [2, 8] {
+        fill(alloc, words, blocks, &mut plain)?;
+        fill(alloc, words, blocks, &mut local)?;
+        let wanted = shown::<SortedLocal<K, C>, R>(alloc, &plain, 1)?;
+        let read = shown::<HashLocal<K, C, N>, R>(alloc, &local, parts)?;
+        local.arrange(alloc, parts)?;
+        let arranged = shown::<HashLocal<K, C, N>, R>(alloc, &local, parts)?;
+        let other = shown::<HashLocal<K, C, N>, R>(alloc, &local, 5)?;
+        same = same
+            && local.cells() == plain.cells()
+            && wanted.as_bytes() == read.as_bytes()
+            && wanted.as_bytes() == arranged.as_bytes()
+            && wanted.as_bytes() == other.as_bytes();
+    }
+    Ok(same && local.cells() > 600)
 }
 
 #[test]
 fn cells_of_the_plain_container(rt: HostRuntime) -> Result<(), Fail> {
     let alloc = rt.alloc();
+    let words = b"The quick brown fox jumps over the lazy dog and runs THE QUICK way.".as_slice();
     for parts in [1, 7, 64] {
-        assert!(rt;
-            same_as_plain::<1>(alloc, parts)?,
-            "1 bucket, {parts} parts"
-        );
-        assert!(rt;
-            same_as_plain::<16>(alloc, parts)?,
-            "16 buckets, {parts} parts"
-        );
-        assert!(rt;
-            same_as_plain::<768>(alloc, parts)?,
-            "768 buckets, {parts} parts"
-        );
-        assert!(rt;
-            same_as_plain::<65536>(alloc, parts)?,
-            "65536 buckets, {parts} parts"
-        );
+        assert!(rt; same_as_plain::<ByteKey, Sum, Plain, 65536>(alloc, words, parts)?);
+        assert!(rt; same_as_plain::<ByteKey, Buffer, List, 16>(alloc, words, parts)?);
+        assert!(rt; same_as_plain::<SliceKey, Sum, Plain, 768>(alloc, words, parts)?);
+        assert!(rt; same_as_plain::<SliceKey, Buffer, List, 1>(alloc, words, parts)?);
     }
     Ok(())
 }
 
+// That threads may share it.
+fn is_shared<T: Send + Sync>(_local: &T) {}
+
 #[test]
 fn least_faults(rt: HostRuntime) -> Result<(), Fail> {
     let alloc = rt.alloc();
-    let mut local: HashLocal<NumKey, Sum, 64> = HashLocal::new(alloc)?;
+    let mut local: HashLocal<SliceKey, Sum, 64> = HashLocal::new(alloc)?;
     local.malformed(9);
     local.malformed(4);
-    local.too_large(NumKey(8));
-    local.too_large(NumKey(5));
-    local.emit(NumKey(9223372036854775807), -1)?;
-    assert!(rt; local.faults().malformed == Some(4) && local.faults().over == Some(NumKey(5)));
+    local.too_large(SliceKey::of(b"the", false));
+    local.too_large(SliceKey::of(b"THE", true));
+    local.too_large(SliceKey::of(b"word", false));
+    local.emit(SliceKey::of(b"a", false), -1)?;
+    assert!(rt; local.faults().malformed == Some(4));
+    assert!(rt; local.faults().over == Some(SliceKey::of(b"the", false)));
     assert!(rt; local.faults().outside.is_none() && local.faults().twice.is_none());
     assert!(rt; local.cells() == 1);
+    is_shared(&local);
     Ok(())
 }

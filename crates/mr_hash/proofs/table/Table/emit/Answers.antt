@@ -1,25 +1,28 @@
-use Rattle.std.proofs.Common.{◌<◌, ◌∙◌, ◌+◌, ap, sym, subst, cond, is_some, length, map}
+use Rattle.std.proofs.Common.{◌<◌, ◌∙◌, ◌+◌, ◌%◌, ap, sym, subst, cond, is_some, length, map}
 use Rattle.std.proofs.lemmas.List.{length-set}
-use Rattle.std.specs.List.{IsDistinct, list_all}
+use Rattle.std.specs.List.{IsDistinct}
 use Rattle.std.specs.FinMap.{find}
 use Rattle.std.specs.Ordering.{eq_by_cmp}
 use Rattle.mr_hash.specs.Slots.{Indexed}
 use Rattle.mr_hash.specs.Pairs.{pairs_of}
-use Rattle.mr_hash.proofs.Finding.{keys_kept, hashes_kept, cell_changed, cell_pushed, entry_found, on_ok, either_way}
+use Rattle.mr_hash.proofs.Finding.{keys_kept, cell_changed, cell_pushed, entry_found, on_ok, either_way}
 use Rattle.mr_hash.proofs.table.Table.emit.Goals as goal
 
 pub invariant_of-self : goal.invariant_of-self
 invariant_of-self g c =
     let table = c.args.self.now in
-    let e = c.index_mut-entry.result.now in
-    let keys = keys_kept table.entries.items c.in-Some.at e c.add.new.cell c.index_mut-entry.ensures.value in
-    let hashes = hashes_kept table.entries.items c.in-Some.at e c.add.new.cell c.index_mut-entry.ensures.value in
+    let keys = keys_kept table.entries.items c.in-Some.at c.index_mut-entry.result.now c.add.new.cell c.index_mut-entry.ensures.value in
     record {
-      few = table.few;
+      some_buckets = table.some_buckets;
+      few_buckets = table.few_buckets;
       half = table.half;
+      some_slots = table.some_slots;
+      few_slots = table.few_slots;
+      shifts = table.shifts;
       distinct = subst (IsDistinct (eq_by_cmp g.K.Ord.cmp)) (sym keys) table.distinct;
-      hashed = hashes ∙ table.hashed ∙ ap (map g.K.Key.hash_of) (sym keys);
-      found = subst (Indexed table.index.items) (sym hashes) table.found;
+      in_buckets = table.in_buckets ∙ ap (map (λ k. g.K.Key.hash_of k % g.row.N)) (sym keys);
+      chained = table.chained;
+      found = subst (λ ks. Indexed table.index.len table.shift table.index.items (map g.K.Key.code_of ks)) (sym keys) table.found;
     }
 
 pub returns-in-Some-clause-cells : goal.returns-in-Some-clause-cells
@@ -37,11 +40,7 @@ returns-in-Some-clause-len g c =
     (ap (λ e. g.K.Ord.cmp c.args.key e.key) c.index_mut-entry.ensures.value ∙ c.in-Some.ensures.place _) in
     either_way c.add.result (length-set table.entries.items c.in-Some.at _ ∙ ap (λ x. cond (is_some x) (length table.entries.items) (length table.entries.items + 1)) (sym there))
 
-pub returns-in-Some-clause-keys : goal.returns-in-Some-clause-keys
-returns-in-Some-clause-keys g c p h all =
-    ap (list_all p) (keys_kept c.args.self.now.entries.items c.in-Some.at c.index_mut-entry.result.now c.add.new.cell c.index_mut-entry.ensures.value) ∙ all
-
 pub returns-in_ok-insert-in-None-clause-cells : goal.returns-in_ok-insert-in-None-clause-cells
 returns-in_ok-insert-in-None-clause-cells g c q =
     ap (λ es. find g.K.Ord.cmp q (pairs_of es)) c.in_ok-insert-in-None.ensures.ok
-    ∙ cell_pushed g.met.K.Ord.total g.met.K.Key.only_equal_tie g.C.Combiner.merged c.args.self.now.entries.items c.args.key (g.C.Combiner.unit_of c.args.value) c.in_ok-cell-in-None.cell c.args.hash c.in-None.ensures.place c.in_ok-cell-in-None.ensures.ok q
+    ∙ cell_pushed g.met.K.Ord.total g.met.K.Key.only_equal_tie g.C.Combiner.merged c.args.self.now.entries.items c.args.key (g.C.Combiner.unit_of c.args.value) c.in_ok-cell-in-None.cell c.in-None.ensures.place c.in_ok-cell-in-None.ensures.ok q

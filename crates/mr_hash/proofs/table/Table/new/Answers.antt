@@ -1,19 +1,27 @@
-use Rattle.std.proofs.Common.{◌≡◌, refl, subst, sym, map, arith, []}
+use Rattle.std.proofs.Common.{◌≡◌, ◌%◌, subst, sym, map, arith, []}
 use Rattle.std.specs.List.{IsDistinct}
 use Rattle.std.specs.Ordering.{eq_by_cmp}
+use Rattle.mr_hash.specs.Pairs.{keys_of}
 use Rattle.mr_hash.specs.Slots.{Indexed}
-use Rattle.mr_hash.specs.Pairs.{keys_of, hashes_of}
 use Rattle.mr_hash.proofs.Indexing.{indexed_none}
+use Rattle.mr_hash.proofs.Chaining.{no_heads}
 use Rattle.mr_hash.proofs.Finding.{distinct_none}
 use Rattle.mr_hash.proofs.table.Table.new.Goals as goal
 
 pub invariant_of-result : goal.invariant_of-result
 invariant_of-result g c =
     let none = sym c.new.ensures.items in
+    let index = c.in_ok-index.index in
     record {
-      few = omega (arith, c.new.ensures.len);
+      some_buckets = c.requires.some;
+      few_buckets = c.requires.few;
       half = omega (arith, c.new.ensures.len);
+      some_slots = omega (arith, c.in_ok-index.ensures.len);
+      few_slots = omega (arith, c.in_ok-index.ensures.len);
+      shifts = omega arith;
       distinct = subst (λ es. IsDistinct (eq_by_cmp g.K.Ord.cmp) (keys_of es)) none (distinct_none _);
-      hashed = subst (λ es. hashes_of es ≡ map g.K.Key.hash_of (keys_of es)) none refl;
-      found = subst (λ es. Indexed c.new-2.result.items (hashes_of es)) none (subst (λ l. Indexed l []) (sym c.new-2.ensures.items) (indexed_none 0));
+      in_buckets = subst (λ es. c.new-2.result.items ≡ map (λ k. g.K.Key.hash_of k % g.row.N) (keys_of es)) none c.new-2.ensures.items;
+      chained = no_heads _ _ _ c.no_chains.ensures;
+      found = subst (λ es. Indexed index.len 60 index.items (map g.K.Key.code_of (keys_of es))) none
+          (subst (λ n. Indexed n 60 index.items []) (sym c.in_ok-index.ensures.len) (subst (λ l. Indexed 16 60 l []) (sym c.in_ok-index.ensures.items) (indexed_none 16 60)));
     }

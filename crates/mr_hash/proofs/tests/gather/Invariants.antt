@@ -1,5 +1,5 @@
 use Rattle.std.proofs.Common.{length}
-use Rattle.mr_hash.proofs.tests.gather_part.Given as goal
+use Rattle.mr_hash.proofs.tests.gather.Given as goal
 
 abbrev pub invariant-loop-key : goal.invariant-loop-key
 invariant-loop-key g l = g.L.Parted.stands_in l.local l.cursor
