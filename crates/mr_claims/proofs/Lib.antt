@@ -1,0 +1,4 @@
+pub mod Steps
+pub mod Unused
+pub mod Passing
+pub mod Gathering

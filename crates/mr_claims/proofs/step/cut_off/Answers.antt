@@ -1,0 +1,13 @@
+use Rattle.std.proofs.Common.{rules, refl, length}
+use Rattle.mr_base.specs.Tasks.{total_of}
+use Rattle.mr_claims.proofs.Steps.{cut_ok}
+use Rattle.mr_claims.proofs.step.cut_off.Goals as goal
+
+pub split_seat-requires : goal.split_seat-requires
+split_seat-requires c =
+    let ranges = c.args.words.now.key in
+    let me = c.args.seat.now in (
+      c.requires.seat.0,
+      c.requires.seat.2,
+      λ s held at. cut_ok (total_of ranges) (length ranges) me.id me.me.0 c.requires.weight c.requires.unused.0 c.requires.unused.1 s.words s.views held at,
+    )
