@@ -1,0 +1,18 @@
+ghost use Rattle.std.specs.Prelude.{◌≡◌, length};
+ghost use Rattle.mr_common.specs.Passes.{IsPassOf, won};
+
+use crate::common::{CommonArray, CommonPass};
+use mr_base::{Faults, NumKey};
+
+/// The container of one worker over the array common to all: it emits by the worker's pass, counts the pairs that the pass won, and notes the faults.
+///
+/// In place of cells, what its pass won and was refused are the pairs of the keys below N that were emitted into it.
+#[derive(Drop)]
+pub struct CommonLocal<'a, const N: usize> {
+    pub(crate) array: &'a CommonArray<N>,
+    pub(crate) pass: CommonPass,
+    pub(crate) cells: u64,
+    pub(crate) faults: Faults<NumKey>,
+    ghost of: { IsPassOf array.now.table.shared.table_id N pass },
+    ghost counted: { cells ≡ length (won pass) },
+}
