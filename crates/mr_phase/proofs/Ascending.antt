@@ -10,8 +10,9 @@ use Rattle.std.specs.FinMap.{IsAntisymmetric, find, is_sorted}
 use Rattle.std.specs.FinMap.Entries.{below_all}
 use Rattle.std.proofs.lemmas.List.Sorted.{sorted_far, ranks_by, IsPermutation-map}
 use Rattle.std.proofs.lemmas.Map.Keys.{IsDistinct-head, IsDistinct-tail, IsDistinct-IsPermutation}
-use Rattle.mr_defs.specs.Commutative.{IsCommutative, joined, joined_by, joined_by-IsPermutation}
-use Rattle.mr_container.specs.Part.{IsPart}
+use Rattle.mr_defs.specs.Commutative.{IsCommutative, joined, joined_by}
+use Rattle.mr_defs.specs.CommutativeLaws.{joined_by-IsPermutation}
+use Rattle.mr_container.specs.Partition.{IsPartition}
 use Rattle.mr_container.proofs.Orders.{is_Equal}
 
 pub both : (a b : Bool) → T a → T b → T (a && b)
@@ -66,13 +67,13 @@ module _ {K C : Type 0} (R : K → K → Ordering) (one : IsAntisymmetric R) {op
 
 module _ {K C : Type 0} {R : K → K → Ordering} (o : IsTotalOrder R) (one : IsAntisymmetric R) {op : C → C → C} (laws : IsCommutative op) (cell : K → Option C) (part_of : K → ℕ) (part : ℕ) where
   -- the entries of a part are so in each order
-  pub IsPart-IsPermutation : (es fs : List (K × C)) → IsPermutation es fs → IsPart R cell part_of part es → IsPart R cell part_of part fs
-  IsPart-IsPermutation es fs p is =
+  pub IsPartition-IsPermutation : (es fs : List (K × C)) → IsPermutation es fs → IsPartition R cell part_of part es → IsPartition R cell part_of part fs
+  IsPartition-IsPermutation es fs p is =
       let differ = IsDistinct-IsPermutation (eq_by_cmp R) ((eq_by_cmp_equiv o).symm) _ _ (IsPermutation-map (λ e. e.0) es fs p) is.distinct in
       record { distinct = differ; found = λ k. same_cell R one laws k es fs p is.distinct differ ∙ is.found k }
 
 -- the entries of the one part of a whole
-pub found_whole : {K C : Type 0} (R : K → K → Ordering) (cell : K → Option C) (part_of : K → ℕ) (entries : List (K × C)) → ((k : K) → part_of k < 1) → IsPart R cell part_of 0 entries → (k : K) → find R k entries ≡ cell k
+pub found_whole : {K C : Type 0} (R : K → K → Ordering) (cell : K → Option C) (part_of : K → ℕ) (entries : List (K × C)) → ((k : K) → part_of k < 1) → IsPartition R cell part_of 0 entries → (k : K) → find R k entries ≡ cell k
 found_whole R cell part_of entries one_part is k = is.found k ∙ ap (λ part. if part == 0 then cell k else None) first
   where
     first : part_of k ≡ 0

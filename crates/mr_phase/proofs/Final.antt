@@ -9,11 +9,12 @@ use Rattle.std.specs.Cmp.{IsTotalOrder, tied_itself}
 use Rattle.std.specs.FinMap.{IsAntisymmetric, find, is_sorted}
 use Rattle.std.specs.FinMap.Entries.{below_all}
 use Rattle.mr_defs.specs.Emission.{Emission, Answer, Row}
-use Rattle.mr_defs.specs.Commutative.{joined, joined_by, joined_by-append}
+use Rattle.mr_defs.specs.Commutative.{joined, joined_by}
+use Rattle.mr_defs.specs.CommutativeLaws.{joined_by-append}
 use Rattle.mr_defs.specs.Keyed.{at, keys_inside, large_key, lesser, least}
-use Rattle.mr_defs.specs.Faulty.{large_of, over_of, first_of, fault_of}
+use Rattle.mr_defs.specs.Faulty.{large_of, over_of, first_of, fault_of, Noted}
 use Rattle.mr_defs.specs.Rows.{rows_of}
-use Rattle.mr_defs.specs.Stands.{Noted, StandsFor, cell_of}
+use Rattle.mr_defs.specs.Stands.{StandsFor, cell_of}
 use Rattle.mr_defs.proofs.Lesser.{lesser_commutative}
 use Rattle.mr_combine.specs.Fold.{IsFoldOf, outcome}
 use Rattle.mr_container.proofs.Orders.{is_Less, both_first, both_second}
@@ -132,5 +133,5 @@ module _ {K V C : Type 0} {R : K → K → Ordering} (o : IsTotalOrder R) (one :
           over = over_too ∙ ap (λ x. joined (lesser R) x (joined_by (lesser R) (over_key over) entries)) (ap (λ n. n.over) unchanged ∙ stands.faults.over) ∙ over_is entries sorted each;
         }
 
-pub first_fault : {K V : Type 0} (R : K → K → Ordering) (inside : K → Bool) (folded : List V → Option Answer) (rows : List (Row K)) (noted : Noted K) (es : List (Emission K V)) → IsReduced R inside folded rows noted es → first_of noted.malformed noted.outside noted.twice noted.over ≡ fault_of R inside folded es
-first_fault R inside folded rows noted es h = λ i. first_of (h.malformed i) (h.outside i) (h.twice i) (h.over i)
+pub first_fault : {K V : Type 0} (R : K → K → Ordering) (inside : K → Bool) (folded : List V → Option Answer) (rows : List (Row K)) (noted : Noted K) (es : List (Emission K V)) → IsReduced R inside folded rows noted es → first_of noted ≡ fault_of R inside folded es
+first_fault R inside folded rows noted es h = λ i. first_of (record { malformed = h.malformed i; outside = h.outside i; twice = h.twice i; over = h.over i })

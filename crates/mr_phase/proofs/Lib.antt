@@ -1,4 +1,14 @@
+pub mod Blocking
+pub mod Taken
+pub mod Sorts
 pub mod Ascending
 pub mod SameKeys
 pub mod Final
 pub mod Turns
+pub mod Folding
+pub mod Gathering
+pub mod Partitions
+pub mod Everyone
+pub mod Finish
+pub mod Ordered
+pub mod Sharing

@@ -3,7 +3,8 @@ use Rattle.std.proofs.Common.{◌≡◌, Bool, true, false, if◌then◌else◌,
 use Rattle.std.specs.List.{cons_option}
 use Rattle.std.proofs.lemmas.List.Elements.{filter_map-append}
 use Rattle.mr_defs.specs.Emission.{Answer}
-use Rattle.mr_defs.specs.Commutative.{IsCommutative, joined, joined_by, joined-none, joined_by-push}
+use Rattle.mr_defs.specs.Commutative.{IsCommutative, joined, joined_by}
+use Rattle.mr_defs.specs.CommutativeLaws.{joined-none, joined_by-push}
 use Rattle.mr_phase.specs.Reduced.{entry_row, over_key}
 
 module _ {K C : Type 0} (over : C → Bool) (answer : C → Answer) (es : List (K × C)) (k : K) (c : C) where

@@ -2,9 +2,8 @@
 use Rattle.std.specs.Prelude.{◌≡◌, Bool, if◌then◌else◌, List, Option, Some, None, option_map}
 use Rattle.std.specs.declared.cmp.Ordering.{Ordering}
 use Rattle.mr_defs.specs.Emission.{Emission, Answer, Row}
-use Rattle.mr_defs.specs.Faulty.{malformed_of, outside_of, over_of}
+use Rattle.mr_defs.specs.Faulty.{malformed_of, outside_of, over_of, Noted}
 use Rattle.mr_defs.specs.Rows.{rows_of}
-use Rattle.mr_defs.specs.Stands.{Noted}
 use Rattle.mr_combine.specs.Fold.{outcome}
 
 -- the rows are those of the emissions, and each fault that is noted is the least of its kind

@@ -1,15 +1,32 @@
 //! The phases of a run: the tasks are mapped into the locals of the workers, and what the locals hold is reduced to rows.
 //!
-//! An entry is a key with its cell. The reduction reads the entries of a local, sorts them by key and reduces each whose cell is not over;
-//! the key of one that is over is noted.
+//! Workers on threads take tasks from their queues until these are empty (`map_phase`); each keeps its tasks and its local, its hand. Then they
+//! take the partitions of the keys (`reduce_phase`), or the calling thread reduces all keys by itself (`gather`): the cells of a key are
+//! merged over all hands, and each that is not over becomes a row.
 //!
-//! Its promise: of a local that stands for a list of emissions come the rows of that list, ascending by key, and its faults, each the least of
-//! its kind, whichever container, combiner and reducer the job has.
+//! Its promise: the rows and the faults are those of all that the tasks emit, whichever worker took which task, and whichever queue, container,
+//! combiner and reducer the job has.
 #![tactic(auto)]
 
+mod alone;
+mod blocks;
+mod calling;
 mod entries;
+mod hands;
+mod map;
+mod mapped;
+mod partition;
 mod reduce;
+mod taking;
 #[cfg(test)]
 mod tests;
+mod together;
 
-pub use reduce::{Reduced, map_and_reduce, reduce_local};
+pub use alone::{ReducedLocal, map_and_reduce, reduce_local};
+pub use blocks::{BlockPass, Blocks};
+pub use calling::gather;
+pub use hands::Hand;
+pub use map::map_phase;
+pub use mapped::Mapped;
+pub use reduce::reduce_phase;
+pub use together::Reduced;

@@ -83,7 +83,7 @@ impl Mapper for Backward {
 
     ghost task_count = { λ m. m.count };
 
-    ghost task_pairs = { λ m t. Pair (m.count - 1 - t) (pos 2) ∷ [] };
+    ghost task_emissions = { λ m t. Pair (m.count - 1 - t) (pos 2) ∷ [] };
 
     fn tasks(&self) -> u32 {
         self.count
