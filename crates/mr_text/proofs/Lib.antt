@@ -1,5 +1,7 @@
-mod Scans
-mod NextWord
-mod Emitted
-mod Numbered
+pub mod Scans
+pub mod Numbered
 mod Read
+pub mod Pairs
+mod Pushed
+pub mod Stretches
+pub mod Sending

@@ -7,10 +7,11 @@
 #![tactic(auto)]
 
 mod rows;
-mod scan;
+mod strips;
 mod words;
 
 pub use rows::rows_text;
+pub use strips::{BLOCK, EDGES, emit_words};
 pub use words::WordCount;
 
 #[cfg(test)]

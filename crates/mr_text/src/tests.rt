@@ -1,22 +1,24 @@
 ghost use Rattle.std.specs.Prelude.{◌≡◌, ◌≤◌, length, refl, false};
 ghost use Rattle.mr_base.specs.Noting.{noted_of};
+ghost use Rattle.mr_split.specs.Pieces.{ArePieces};
+ghost use Rattle.mr_split.specs.declared.boundary.Boundary.{Boundary};
 
 use crate::{WordCount, rows_text};
-use mr_base::{Answer, ByteKey, Faults, Few, Memory, NumKey, Rows};
+use mr_base::{Answer, ByteKey, Faults, Few, Key, Memory, NumKey, Rows, SliceKey, Text, TextKey};
 use mr_container::{Local, map_all};
-use mr_split::{Boundary, pieces};
+use mr_split::{Boundary, Pieces, pieces};
 use std::alloc::Global;
 use std::test::Fail;
 
-/// A container that writes down each pair in the order in which it comes.
+/// A container that writes down each emission in the order in which it comes: a key and its value, or an offset behind a mark.
 #[derive(Drop)]
-struct Record {
-    rows: Rows<ByteKey>,
-    faults: Faults<ByteKey>,
+struct Record<K> {
+    text: Text,
+    faults: Faults<K>,
 }
 
-impl Local for Record {
-    type Key = ByteKey;
+impl<K: Key> Local for Record<K> {
+    type Key = K;
 
     type Value = i64;
 
@@ -34,17 +36,22 @@ impl Local for Record {
 
     ghost any_order = { λ _ _ _ _ _. tt };
 
+    ghost same_refl = { λ _. refl };
+
     ghost same_keeps = { λ _ _ e. (λ _ _. tt, e, refl, λ _. refl) };
 
     ghost origin_refl = { λ _. tt };
 
     ghost origin_trans = { λ _ _ _ _ _. tt };
 
-    fn emit(&mut self, key: ByteKey, value: i64) -> Result<(), Memory> {
-        self.rows.push(key, Answer::one(value as i128))
+    fn emit(&mut self, key: K, value: i64) -> Result<(), Memory> {
+        key.print(&mut self.text)?;
+        self.text.push(b" ")?;
+        self.text.push_number(value as i128)?;
+        self.text.push(b"\n")
     }
 
-    fn too_large(&mut self, _key: ByteKey) {}
+    fn too_large(&mut self, _key: K) {}
 
     fn malformed(&mut self, _offset: u64) {}
 
@@ -52,24 +59,26 @@ impl Local for Record {
         0
     }
 
-    fn faults(&self) -> &Faults<ByteKey> {
+    fn faults(&self) -> &Faults<K> {
         &self.faults
     }
 }
 
-/// The pairs that the tasks of a text emit, one task after the other.
-fn emitted(alloc: Global, text: &[u8], chunk: u32) -> Result<Rows<ByteKey>, Memory>
-    requires chunk { 1 ≤ chunk }
-    requires length { length text.now ≤ 134217728 }
+/// What the tasks of a text emit, one task after the other.
+fn emitted<'a, K: TextKey<'a>>(
+    alloc: Global,
+    text: &'a [u8],
+    pieces: &'a Pieces,
+) -> Result<Text, Memory>
+    requires { ArePieces Boundary.Word text.now pieces.now }
 {
-    let pieces = pieces(alloc, text, chunk, Boundary::Word)?;
-    let mapper = WordCount::new(text, &pieces);
-    let mut record = Record {
-        rows: Rows::new(alloc),
+    let mapper = WordCount::<K>::new(text, pieces);
+    let mut record = Record::<K> {
+        text: Text::new(alloc),
         faults: Faults::none(),
     };
     map_all(alloc, &mapper, &mut record)?;
-    Ok(record.rows)
+    Ok(record.text)
 }
 
 #[test]
@@ -90,10 +99,38 @@ fn emits_words(rt: HostRuntime) -> Result<(), Fail> {
     ];
     for (text, chunk, wanted) in table {
         assert!(rt; chunk >= 1 && text.len() <= 100);
-        let rows = emitted(alloc, text.as_bytes(), chunk)?;
-        let printed = rows_text(alloc, &rows)?;
-        assert!(rt; printed.as_bytes() == wanted.as_bytes(), "{text}");
+        let text = text.as_bytes();
+        let pieces = pieces(alloc, text, chunk, Boundary::Word)?;
+        let owned = emitted::<ByteKey>(alloc, text, &pieces)?;
+        assert!(rt; owned.as_bytes() == wanted.as_bytes(), "{wanted}");
+        let borrowed = emitted::<SliceKey>(alloc, text, &pieces)?;
+        assert!(rt; borrowed.as_bytes() == wanted.as_bytes(), "{wanted}");
     }
+    Ok(())
+}
+
+#[test]
+fn emits_words_over_strips(rt: HostRuntime) -> Result<(), Fail> {
+    // words at the end of a strip, one that is longer than a strip, and more pairs than a block holds
+    let alloc = rt.alloc();
+    let mut text = Vec::new(alloc);
+    let mut wanted = Vec::new(alloc);
+    for length in [1000, 23, 1, 3000, 1024, 1025, 7] {
+        let word = vec![in alloc; b'w'; length]?;
+        text.extend_from_slice(word.as_slice())?;
+        text.push(b' ')?;
+        wanted.extend_from_slice(word.as_slice())?;
+        wanted.extend_from_slice(b" 1\n")?;
+    }
+    for _ in 0..700 {
+        text.extend_from_slice(b"i,")?;
+        wanted.extend_from_slice(b"i 1\n")?;
+    }
+    assert!(rt; text.len() <= 100000);
+    let text = text.as_slice();
+    let pieces = pieces(alloc, text, 100000, Boundary::Word)?;
+    let found = emitted::<SliceKey>(alloc, text, &pieces)?;
+    assert!(rt; found.as_bytes() == wanted.as_slice());
     Ok(())
 }
 

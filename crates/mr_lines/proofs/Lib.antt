@@ -1,0 +1,5 @@
+mod Emitted
+mod NextLine
+mod Driven
+mod Whole
+mod Fields

@@ -1,0 +1,7 @@
+mod Emitted
+mod Pixels
+mod Products
+mod Lines
+mod Same
+mod SumsOf
+mod Quotients

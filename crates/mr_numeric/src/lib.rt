@@ -1,0 +1,31 @@
+//! The jobs over numbered items: the pixels of a bitmap, and the rows of a grid.
+//!
+//! `Items` says of a job what each of its items emits, and `Spanned` cuts the items into tasks: a task is a span, and emits what its items
+//! emit, one after the other. A job reads its bitmap or grid where it stands and takes no memory. The texts of those jobs that don't print
+//! their rows as they are stand here too.
+//!
+//! Its promise: a task emits exactly what `mr_items` says of the items of its span, all tasks together what the whole input does, and a
+//! text is that of the definition.
+#![tactic(auto)]
+
+mod columns;
+mod histogram;
+mod means_of_columns;
+mod pairs;
+mod product;
+mod regression;
+mod regression_lines;
+mod spanned;
+mod spread;
+mod sums;
+#[cfg(test)]
+mod tests;
+
+pub use columns::{ColumnSums, Columns};
+pub use histogram::{Histogram, PixelRows};
+pub use means_of_columns::{ColumnMeans, column_means};
+pub use product::{Product, RowPairs};
+pub use regression::{Points, Regression};
+pub use regression_lines::regression_text;
+pub use spanned::{Items, Spanned};
+pub use spread::{Deviations, Spread};

@@ -1,0 +1,110 @@
+ghost use Rattle.std.specs.Prelude.{◌≡◌, ◌≢◌, ◌≤◌, ◌<◌, ◌+◌, ◌-◌, ◌++◌, ℕ, ℤ, List, All, length, negsuc, pos, slice_index, slice_range, true, OnOk, OnErr};
+ghost use Rattle.mr_items.specs.Words as items;
+ghost use Rattle.mr_container.specs.Block.{block_emissions};
+ghost use Rattle.mr_text.specs.Keyed.{word_pairs, word_emissions};
+ghost use Rattle.mr_text.specs.Sent.{Sent, SentSome};
+
+use mr_base::{Memory, TextKey};
+use mr_container::Local;
+use mr_kernels::{is_word_byte, word_edges, word_end};
+use std::alloc::Global;
+
+/// How many bytes of a text are scanned at once.
+pub const STRIP: usize = 1024;
+
+/// How many edges a strip has room for.
+pub const EDGES: usize = 1088;
+
+/// How many pairs a block waits for.
+pub const BLOCK: usize = 256;
+
+/// The end of the strip that begins at a place: the last word boundary that is at most a strip's length on. Where a longer word begins there,
+/// its end.
+fn strip_end(text: &[u8], at: usize, end: usize) -> usize
+    requires order { at < end }
+    requires inside { end ≤ length text.now }
+    requires ends { items.is_word_boundary text.now end ≡ true }
+    ensures place { (at < result) × (result ≤ end) }
+    ensures between { items.is_word_boundary text.now result ≡ true }
+    ensures long { 1024 < result - at → (k : ℕ) → at ≤ k → k < result → items.is_word_byte (slice_index text.now k) ≡ true }
+{
+    if end - at <= STRIP {
+        return end;
+    }
+    let mut cut = at + STRIP;
+    while cut > at {
+        if !is_word_byte(text[cut - 1]) {
+            return cut;
+        }
+        cut -= 1;
+    }
+    word_end(&text[..end], at + STRIP)
+}
+
+/// Puts each word of a strip into the block.
+fn push_words<'a, K: TextKey<'a>>(
+    alloc: Global,
+    text: &'a [u8],
+    from: usize,
+    to: usize,
+    value: u64,
+    edges: &mut [u32],
+    block: &mut Vec<(K, i64)>,
+) -> Result<(), Memory>
+    requires order { from < to }
+    requires inside { to ≤ length text.now }
+    requires long { 1024 < to - from → (k : ℕ) → from ≤ k → k < to → items.is_word_byte (slice_index text.now k) ≡ true }
+    requires value { value ≤ 9223372036854775807 }
+    requires room { length edges.old ≡ 1088 }
+    ensures room { length edges.new ≡ 1088 }
+    ensures ok { OnOk result (block.new.items ≡ block.old.items ++ word_pairs K.of_text (pos value) (slice_range text.now from to)) }
+{
+    if to - from > STRIP {
+        block.push((K::part_of(alloc, text, from, to, true)?, value as i64))?;
+        return Ok(());
+    }
+    let count = word_edges(text, from, to, edges);
+    for i in 0..count / 2 {
+        let start = from + edges[2 * i] as usize;
+        let end = from + edges[2 * i + 1] as usize;
+        block.push((K::part_of(alloc, text, start, end, true)?, value as i64))?;
+    }
+    Ok(())
+}
+
+/// Emits each word of a stretch between two word boundaries, with this value, by way of the block: where it holds enough pairs it is handed
+/// over.
+pub fn emit_words<'a, K: TextKey<'a>, L: Local<Key = K, Value = i64>>(
+    alloc: Global,
+    text: &'a [u8],
+    from: usize,
+    to: usize,
+    value: u64,
+    edges: &mut [u32],
+    block: &mut Vec<(K, i64)>,
+    out: &mut L,
+) -> Result<(), Memory>
+    requires order { from ≤ to }
+    requires inside { to ≤ length text.now }
+    requires starts { items.is_word_boundary text.now from ≡ true }
+    requires ends { items.is_word_boundary text.now to ≡ true }
+    requires value { value ≤ 9223372036854775807 }
+    requires room { length edges.old ≡ 1088 }
+    requires allowed { All (λ p. K.allowed p.0 × (p.1 ≢ negsuc 9223372036854775807)) block.old.items }
+    ensures ok { OnOk result (Sent L.stands out.old out.new (block_emissions block.old.items ++ word_emissions K.of_text (pos value) (slice_range text.now from to)) (block_emissions block.new.items)) }
+    ensures err { OnErr result (SentSome L.stands out.old out.new (block_emissions block.old.items ++ word_emissions K.of_text (pos value) (slice_range text.now from to))) }
+    ensures allowed { OnOk result (All (λ p. K.allowed p.0 × (p.1 ≢ negsuc 9223372036854775807)) block.new.items) }
+    ensures room { length edges.new ≡ 1088 }
+    ensures origin { L.same_origin out.old out.new }
+{
+    let mut at = from;
+    while at < to {
+        let next = strip_end(text, at, to);
+        push_words(alloc, text, at, next, value, edges, block)?;
+        if block.len() >= BLOCK {
+            out.emit_block(block)?;
+        }
+        at = next;
+    }
+    Ok(())
+}
