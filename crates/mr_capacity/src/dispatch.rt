@@ -17,14 +17,79 @@ macro_rules! at_capacity {
     };
 }
 
-/// Calls a function at the combiner that a job has and the reducer of plain combiners: `at_combiner!(combiner, { Sum, Count }, call(x, y))` is
-/// `call::<Sum, Plain>(x, y)` where the combiner is `CombinerKind::Sum`. The names are those of the job's row in the table `PAIRINGS`; the arm for any
-/// other combiner is never reached, which the check proves.
+/// The type of a combiner, by the name of its kind: most have the same name. The caller brings the types of `mr_combine` in.
+#[macro_export]
+macro_rules! combiner_type {
+    (MinMax) => { Both<Min, Max> };
+    (SumCount) => { Both<Sum, Count> };
+    ($name:ident) => { $name };
+}
+
+/// Calls a function at the type of the combiner that a job has and at the reducer of plain combiners:
+/// `at_combiner!(combiner, { Sum, MinMax }, call<A>(x, y))` is `call::<A, Both<Min, Max>, Plain>(x, y)` where the combiner is
+/// `CombinerKind::MinMax`. The function has no type parameter, one or two before these. The names are all combiners that the table
+/// `PAIRINGS` has for the job; the arm for any other is never reached, which the check proves where the job's kind is known.
 #[macro_export]
 macro_rules! at_combiner {
+    ($combiner:expr, { $($name:ident),* }, $call:ident<$first:ty, $second:ty>$arguments:tt) => {
+        match $combiner {
+            $(CombinerKind::$name => $call::<$first, $second, $crate::combiner_type!($name), Plain> $arguments,)*
+            _ => unreachable!(),
+        }
+    };
+    ($combiner:expr, { $($name:ident),* }, $call:ident<$first:ty>$arguments:tt) => {
+        match $combiner {
+            $(CombinerKind::$name => $call::<$first, $crate::combiner_type!($name), Plain> $arguments,)*
+            _ => unreachable!(),
+        }
+    };
     ($combiner:expr, { $($name:ident),* }, $call:ident $arguments:tt) => {
         match $combiner {
-            $(CombinerKind::$name => $call::<$name, Plain> $arguments,)*
+            $(CombinerKind::$name => $call::<$crate::combiner_type!($name), Plain> $arguments,)*
+            _ => unreachable!(),
+        }
+    };
+}
+
+/// Calls a function at the combiner `Buffer` and the reducer that a job has beside it: `at_reducer!(reducer, { List, Distinct }, call<A>(x, y))` is
+/// `call::<A, Buffer, List>(x, y)` where the reducer is `Some(ReducerKind::List)`. Type parameters, names and the last arm are as in
+/// `at_combiner!`.
+#[macro_export]
+macro_rules! at_reducer {
+    ($reducer:expr, { $($name:ident),* }, $call:ident<$first:ty, $second:ty>$arguments:tt) => {
+        match $reducer {
+            $(Some(ReducerKind::$name) => $call::<$first, $second, Buffer, $name> $arguments,)*
+            _ => unreachable!(),
+        }
+    };
+    ($reducer:expr, { $($name:ident),* }, $call:ident<$first:ty>$arguments:tt) => {
+        match $reducer {
+            $(Some(ReducerKind::$name) => $call::<$first, Buffer, $name> $arguments,)*
+            _ => unreachable!(),
+        }
+    };
+    ($reducer:expr, { $($name:ident),* }, $call:ident $arguments:tt) => {
+        match $reducer {
+            $(Some(ReducerKind::$name) => $call::<Buffer, $name> $arguments,)*
+            _ => unreachable!(),
+        }
+    };
+}
+
+/// Calls one of some functions, by the container that a job has: `at_container!(container, { Hash => in_table, Array => in_array }, <C, R>(x, y))` is
+/// `in_array::<C, R>(x, y)` where the container is `ContainerKind::Array`. There are two type parameters or none; names and the last arm are as
+/// in `at_combiner!`.
+#[macro_export]
+macro_rules! at_container {
+    ($container:expr, { $($name:ident => $call:ident),* }, <$first:ty, $second:ty>$arguments:tt) => {
+        match $container {
+            $(ContainerKind::$name => $call::<$first, $second> $arguments,)*
+            _ => unreachable!(),
+        }
+    };
+    ($container:expr, { $($name:ident => $call:ident),* }, $arguments:tt) => {
+        match $container {
+            $(ContainerKind::$name => $call $arguments,)*
             _ => unreachable!(),
         }
     };

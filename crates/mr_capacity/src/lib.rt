@@ -1,10 +1,10 @@
 //! The kinds of job, container, key, combiner, reducer and queue that a job file names, and which of them go together.
 //!
-//! Names, capacities and pairings are tables of data (`JOB_NAMES`, `CAPACITIES`, `PAIRINGS`, ..); one rule over each table says what it
-//! means, and a new row is one line. What the combiners fold values to is a function of these kinds (`folded` in `specs/`), over the folds of
-//! `mr_defs`.
+//! Names, capacities and pairings are tables of data (`JOB_NAMES`, `CAPACITIES`, `PAIRINGS`, ..), written out in `specs/` too; one rule over each
+//! table says what it means. What the combiners fold values to is a function of these kinds (`folded` in `specs/`), over the folds of
+//! `mr_defs`. The macros call a function at the types that a kind and a capacity stand for.
 //!
-//! Its promise: `capacity_allowed` and `pairing_allowed` are true exactly for what the tables list.
+//! Its promise: `capacity_allowed` and `pairing_allowed` are true exactly for what the tables of `specs/` list, and names are as they say.
 #![tactic(auto)]
 
 mod dispatch;
@@ -15,6 +15,7 @@ mod tables;
 pub use kinds::{CombinerKind, ContainerKind, JobKind, KeyKind, QueueKind, ReducerKind};
 pub use names::{
     COMBINER_NAMES, CONTAINER_NAMES, JOB_NAMES, KEY_NAMES, QUEUE_NAMES, REDUCER_NAMES, named,
+    tables_of_names,
 };
 pub use tables::{
     CAPACITIES, Further, PAIRINGS, Pairing, capacity_allowed, is_row, pairing_allowed,

@@ -1,5 +1,5 @@
 ghost use Rattle.std.specs.Prelude.{◌≡◌};
-ghost use Rattle.mr_capacity.specs.Names.{entries, named};
+ghost use Rattle.mr_capacity.specs.Names.{entries, constant_entries, named, job_names, container_names, key_names, combiner_names, reducer_names, queue_names};
 
 use crate::kinds::{CombinerKind, ContainerKind, JobKind, KeyKind, QueueKind, ReducerKind};
 
@@ -71,3 +71,13 @@ pub fn named<K: Copy>(names: &[(&str, K)], text: &str) -> Option<K>
     }
     None
 }
+
+/// Carries as clauses that the tables of names are those that `specs/` writes out.
+pub fn tables_of_names()
+    ensures jobs { constant_entries JOB_NAMES ≡ job_names }
+    ensures containers { constant_entries CONTAINER_NAMES ≡ container_names }
+    ensures keys { constant_entries KEY_NAMES ≡ key_names }
+    ensures combiners { constant_entries COMBINER_NAMES ≡ combiner_names }
+    ensures reducers { constant_entries REDUCER_NAMES ≡ reducer_names }
+    ensures queues { constant_entries QUEUE_NAMES ≡ queue_names }
+{}

@@ -15,13 +15,11 @@ use Rattle.mr_capacity.specs.Same.{same_job, same_further, same_keys}
 use Rattle.mr_capacity.specs.Tables.{Row, rows, is_row, is_capacity, is_pairing, has_parts}
 use Rattle.mr_jobfile.specs.declared.key.JobKey.{JobKey}
 use Rattle.mr_jobfile.specs.declared.key.JobKey.TheVariants as key
-use Rattle.mr_jobfile.specs.declared.key.TheConstants.{ALL_KEYS}
 use Rattle.mr_jobfile.specs.declared.values.Values.{Values}
-use Rattle.mr_jobfile.specs.declared.defaults.TheConstants.{DEFAULT_QUEUE, DEFAULT_PARTITIONS, DEFAULT_TEXT_CHUNK, DEFAULT_CHUNK}
-use Rattle.mr_jobfile.specs.Ranges.{is_within, is_count_of, are_patterns, are_patterns_of, has_means, has_patterns, is_text_job}
+use Rattle.mr_jobfile.specs.Ranges.{most_partitions, greatest_chunk, most_clusters, most_rounds, is_within, is_count_of, are_patterns, are_patterns_of, has_means, has_patterns, is_text_job}
 use Rattle.mr_jobfile.specs.Forms.{is_there, is_bad, first_bad, number_in, kind_in, texts_in, is_built_job, is_built_container, is_built_combiner, is_built_queue}
-use Rattle.mr_jobfile.specs.Keys.{key_text}
-use Rattle.mr_jobfile.specs.Values.{said, values_of, is_there_exactly, has_further, fits_row, keys_in, default_chunk, job_with, job_by, described}
+use Rattle.mr_jobfile.specs.Keys.{key_text, all_keys}
+use Rattle.mr_jobfile.specs.Values.{said, values_of, is_there_exactly, has_further, fits_row, keys_in, default_chunk, default_queue, default_partitions, job_with, job_by, described}
 use Rattle.mr_jobfile.specs.Allowed.{IsAllowed}
 use Rattle.mr_jobfile.proofs.Found.{not_found, found_passes, found_among, some_more, some_map, some_both}
 
@@ -32,10 +30,10 @@ pub record AreGood (v : Values) : Type 0 where
   pub capacity : IfSome v.capacity (λ n. is_capacity (pos n) ≡ true)
   pub combiner : IfSome v.combiner (λ k. is_built_combiner k ≡ true)
   pub queue : IfSome v.queue (λ k. is_built_queue k ≡ true)
-  pub partitions : IfSome v.partitions (λ n. is_within 1 64 n ≡ true)
-  pub chunk : IfSome v.chunk (λ n. is_within 1 16777216 n ≡ true)
-  pub clusters : IfSome v.clusters (λ n. is_within 1 64 n ≡ true)
-  pub rounds : IfSome v.rounds (λ n. is_within 1 1000 n ≡ true)
+  pub partitions : IfSome v.partitions (λ n. is_within 1 most_partitions n ≡ true)
+  pub chunk : IfSome v.chunk (λ n. is_within 1 greatest_chunk n ≡ true)
+  pub clusters : IfSome v.clusters (λ n. is_within 1 most_clusters n ≡ true)
+  pub rounds : IfSome v.rounds (λ n. is_within 1 most_rounds n ≡ true)
   pub patterns : IfSome v.patterns (λ ps. are_patterns ps ≡ true)
 
 there : {A : Type 0} (test : A → Bool) (value : Option A) → not (is_there test value) ≡ false → IfSome value (λ x. test x ≡ true)
@@ -57,17 +55,17 @@ number_good test ms k good = good_at test number_in (get_member (key_text k) ms)
 
 are_good : (ms : Members) → first_bad ms ≡ None → AreGood (values_of ms)
 are_good ms none =
-    let good : (i : ℕ) (k : JobKey) → slice_get ALL_KEYS i ≡ Some k → is_bad ms k ≡ false = λ i k at. not_found (is_bad ms) ALL_KEYS i k none at in
+    let good : (i : ℕ) (k : JobKey) → slice_get all_keys i ≡ Some k → is_bad ms k ≡ false = λ i k at. not_found (is_bad ms) all_keys i k none at in
     record {
       job = good_at is_built_job (kind_in job_names) (get_member (key_text key.Job) ms) (good 1 key.Job refl);
       container = good_at is_built_container (kind_in container_names) (get_member (key_text key.Container) ms) (good 2 key.Container refl);
       combiner = good_at is_built_combiner (kind_in combiner_names) (get_member (key_text key.Combiner) ms) (good 4 key.Combiner refl);
       queue = good_at is_built_queue (kind_in queue_names) (get_member (key_text key.Queue) ms) (good 7 key.Queue refl);
       capacity = number_good (λ n. is_capacity (pos n)) ms key.Capacity (good 3 key.Capacity refl);
-      partitions = number_good (is_within 1 64) ms key.Partitions (good 8 key.Partitions refl);
-      chunk = number_good (is_within 1 16777216) ms key.Chunk (good 9 key.Chunk refl);
-      clusters = number_good (is_within 1 64) ms key.Clusters (good 10 key.Clusters refl);
-      rounds = number_good (is_within 1 1000) ms key.Rounds (good 11 key.Rounds refl);
+      partitions = number_good (is_within 1 most_partitions) ms key.Partitions (good 8 key.Partitions refl);
+      chunk = number_good (is_within 1 greatest_chunk) ms key.Chunk (good 9 key.Chunk refl);
+      clusters = number_good (is_within 1 most_clusters) ms key.Clusters (good 10 key.Clusters refl);
+      rounds = number_good (is_within 1 most_rounds) ms key.Rounds (good 11 key.Rounds refl);
       patterns = good_at are_patterns texts_in (get_member (key_text key.Patterns) ms) (good 12 key.Patterns refl);
     }
 
@@ -130,10 +128,10 @@ further_of v job container combiner row fits agree =
 in_pairings : (v : Values) (job : JobKind) (container : ContainerKind) (combiner : CombinerKind) (row : Row) → fits_row v job container combiner row ≡ true → is_row row job container row.keys combiner v.reducer ≡ true
 in_pairings v job container combiner row fits = (and_parts (is_row row job container row.keys combiner v.reducer) (has_further row v) fits).0
 
-default_chunk_good : (job : JobKind) → is_within 1 16777216 (default_chunk job) ≡ true
+default_chunk_good : (job : JobKind) → is_within 1 greatest_chunk (default_chunk job) ≡ true
 default_chunk_good job = by_size (is_text_job job)
   where
-    by_size : (text : Bool) → is_within 1 16777216 (cond text DEFAULT_TEXT_CHUNK DEFAULT_CHUNK) ≡ true
+    by_size : (text : Bool) → is_within 1 greatest_chunk (cond text 65536 64) ≡ true
     by_size true = refl
     by_size false = refl
 
@@ -153,13 +151,13 @@ allowed_with v good job container capacity combiner job_good container_good comb
       job = job_good;
       container = container_good;
       combiner = combiner_good;
-      queue = default_good is_built_queue v.queue DEFAULT_QUEUE good.queue refl;
+      queue = default_good is_built_queue v.queue default_queue good.queue refl;
       capacity = capacity_good;
       pairing = known.1;
-      partitions = default_good (is_within 1 64) v.partitions DEFAULT_PARTITIONS good.partitions refl;
-      chunk = default_good (is_within 1 16777216) v.chunk (default_chunk job) good.chunk (default_chunk_good job);
-      clusters = count_good (has_means job) 64 v.clusters more.clusters good.clusters;
-      rounds = count_good (has_means job) 1000 v.rounds more.rounds good.rounds;
+      partitions = default_good (is_within 1 most_partitions) v.partitions default_partitions good.partitions refl;
+      chunk = default_good (is_within 1 greatest_chunk) v.chunk (default_chunk job) good.chunk (default_chunk_good job);
+      clusters = count_good (has_means job) most_clusters v.clusters more.clusters good.clusters;
+      rounds = count_good (has_means job) most_rounds v.rounds more.rounds good.rounds;
       patterns = patterns_good (has_patterns job) v.patterns more.patterns good.patterns;
     })))
 

@@ -10,7 +10,8 @@ use Rattle.std.specs.String.{string_cmp}
 use Rattle.std.proofs.lemmas.Cmp.{nat_list_cmp_total}
 use Rattle.toml.specs.View.{members_view}
 use Rattle.toml.proofs.Views.{Entry}
-use Rattle.mr_defs.specs.Commutative.{IsCommutative, joined, joined-assoc}
+use Rattle.mr_defs.specs.Commutative.{IsCommutative, joined}
+use Rattle.mr_defs.specs.CommutativeLaws.{joined-assoc}
 use Rattle.mr_defs.specs.Keyed.{lesser, least}
 use Rattle.mr_defs.proofs.Lesser.{lesser_commutative}
 use Rattle.mr_jobfile.specs.Keys.{is_known, is_unknown, names_in, least_unknown}

@@ -12,10 +12,9 @@ use Rattle.mr_capacity.specs.Same.{same_job, same_container, same_combiner, same
 use Rattle.mr_capacity.specs.Tables.{is_capacity}
 use Rattle.mr_jobfile.specs.declared.key.JobKey.{JobKey}
 use Rattle.mr_jobfile.specs.declared.key.JobKey.TheVariants as key
-use Rattle.mr_jobfile.specs.declared.key.TheConstants.{ALL_KEYS}
 use Rattle.mr_jobfile.specs.declared.built.TheConstants.{BUILT_JOBS, BUILT_CONTAINERS, BUILT_COMBINERS, BUILT_QUEUES}
-use Rattle.mr_jobfile.specs.Keys.{key_text}
-use Rattle.mr_jobfile.specs.Ranges.{is_within, are_patterns}
+use Rattle.mr_jobfile.specs.Keys.{key_text, all_keys}
+use Rattle.mr_jobfile.specs.Ranges.{is_within, are_patterns, most_partitions, greatest_chunk, most_clusters, most_rounds}
 
 -- the value is there, and the test holds of it
 abbrev pub is_there : {A : Type 0} → (A → Bool) → Option A → Bool
@@ -63,10 +62,10 @@ fits key.Combiner d = is_there is_built_combiner (kind_in combiner_names d)
 fits key.Reducer d = is_some (kind_in reducer_names d)
 fits key.Keys d = is_some (kind_in key_names d)
 fits key.Queue d = is_there is_built_queue (kind_in queue_names d)
-fits key.Partitions d = is_there (is_within 1 64) (number_in d)
-fits key.Chunk d = is_there (is_within 1 16777216) (number_in d)
-fits key.Clusters d = is_there (is_within 1 64) (number_in d)
-fits key.Rounds d = is_there (is_within 1 1000) (number_in d)
+fits key.Partitions d = is_there (is_within 1 most_partitions) (number_in d)
+fits key.Chunk d = is_there (is_within 1 greatest_chunk) (number_in d)
+fits key.Clusters d = is_there (is_within 1 most_clusters) (number_in d)
+fits key.Rounds d = is_there (is_within 1 most_rounds) (number_in d)
 fits key.Patterns d = is_there are_patterns (texts_in d)
 
 -- the key is there, with a value that it may not have
@@ -75,4 +74,4 @@ is_bad ms k = is_there (λ d. not (fits k d)) (get_member (key_text k) ms)
 
 -- the first such key
 abbrev pub first_bad : Members → Option JobKey
-first_bad ms = find (is_bad ms) ALL_KEYS
+first_bad ms = find (is_bad ms) all_keys

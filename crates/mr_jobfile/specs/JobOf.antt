@@ -6,7 +6,7 @@ use Rattle.toml.specs.Data.{Members}
 use Rattle.toml.specs.Parse.{parse_document}
 use Rattle.mr_jobfile.specs.declared.fault.JobFault.{JobFault}
 use Rattle.mr_jobfile.specs.declared.fault.JobFault.TheVariants as fault
-use Rattle.mr_jobfile.specs.declared.read.TheConstants.{JOB_LIMIT}
+use Rattle.mr_jobfile.specs.Ranges.{job_limit}
 use Rattle.mr_jobfile.specs.Keys.{least_unknown, first_missing}
 use Rattle.mr_jobfile.specs.Forms.{first_bad}
 use Rattle.mr_jobfile.specs.Values.{SeenJob, values_of, described}
@@ -26,5 +26,5 @@ judged ms =
 -- the job of a file, or the first of its faults
 unfoldable pub job_of : List ℕ → Result SeenJob JobFault
 job_of bytes =
-    if nat_lt JOB_LIMIT (length bytes) then Err fault.TooLong
+    if nat_lt job_limit (length bytes) then Err fault.TooLong
     else option_map_or judged (document_of bytes) (Err fault.NotToml)

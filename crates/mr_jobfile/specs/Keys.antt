@@ -8,7 +8,6 @@ use Rattle.toml.specs.Data.{Members, no_members, member, get_member}
 use Rattle.mr_defs.specs.Keyed.{least}
 use Rattle.mr_jobfile.specs.declared.key.JobKey.{JobKey}
 use Rattle.mr_jobfile.specs.declared.key.JobKey.TheVariants as key
-use Rattle.mr_jobfile.specs.declared.key.TheConstants.{ALL_KEYS, NEEDED_KEYS}
 
 -- the key as it stands in the file
 abbrev pub key_text : JobKey → List ℕ
@@ -26,9 +25,18 @@ key_text key.Clusters = codes "clusters"
 key_text key.Rounds = codes "rounds"
 key_text key.Patterns = codes "patterns"
 
+-- the keys that every file has; and all keys, in the order in which faults are looked for
+abbrev pub needed_keys : List JobKey
+needed_keys = key.Version ∷ key.Job ∷ key.Container ∷ key.Capacity ∷ key.Combiner ∷ []
+
+abbrev pub all_keys : List JobKey
+all_keys =
+    key.Version ∷ key.Job ∷ key.Container ∷ key.Capacity ∷ key.Combiner ∷ key.Reducer ∷ key.Keys ∷ key.Queue
+    ∷ key.Partitions ∷ key.Chunk ∷ key.Clusters ∷ key.Rounds ∷ key.Patterns ∷ []
+
 -- some key has this text
 abbrev pub is_known : List ℕ → Bool
-is_known name = list_any (λ k. bytes_eq name (key_text k)) ALL_KEYS
+is_known name = list_any (λ k. bytes_eq name (key_text k)) all_keys
 
 -- no key has
 abbrev pub is_unknown : List ℕ → Bool
@@ -45,4 +53,4 @@ least_unknown ms = least (slice_cmp nat_cmp) (filter is_unknown (names_in ms))
 
 -- the first needed key that isn't there
 abbrev pub first_missing : Members → Option JobKey
-first_missing ms = find (λ k. not (is_some (get_member (key_text k) ms))) NEEDED_KEYS
+first_missing ms = find (λ k. not (is_some (get_member (key_text k) ms))) needed_keys

@@ -4,6 +4,29 @@ use Rattle.std.specs.List.{list_any, list_all}
 use Rattle.mr_capacity.specs.declared.kinds.JobKind.{JobKind}
 use Rattle.mr_capacity.specs.declared.kinds.JobKind.TheVariants as job
 
+-- the most bytes of a job file
+abbrev pub job_limit : ℕ
+job_limit = 65536
+
+-- the most partitions, the greatest chunk, the most clusters and rounds; the most patterns and the longest of them
+abbrev pub most_partitions : ℕ
+most_partitions = 64
+
+abbrev pub greatest_chunk : ℕ
+greatest_chunk = 16777216
+
+abbrev pub most_clusters : ℕ
+most_clusters = 64
+
+abbrev pub most_rounds : ℕ
+most_rounds = 1000
+
+abbrev pub most_patterns : ℕ
+most_patterns = 16
+
+abbrev pub longest_pattern : ℕ
+longest_pattern = 64
+
 -- from low up to and with high
 abbrev pub is_within : ℕ → ℕ → ℕ → Bool
 is_within low high n = nat_le low n && nat_le n high
@@ -15,11 +38,11 @@ is_count_of false high n = n == 0
 
 -- 1 to 64 bytes, and none of them a byte 10
 abbrev pub is_pattern : List ℕ → Bool
-is_pattern bytes = is_within 1 64 (length bytes) && not (list_any (λ b. b == 10) bytes)
+is_pattern bytes = is_within 1 longest_pattern (length bytes) && not (list_any (λ b. b == 10) bytes)
 
 -- 1 to 16 of them
 abbrev pub are_patterns : List (List ℕ) → Bool
-are_patterns patterns = is_within 1 16 (length patterns) && list_all is_pattern patterns
+are_patterns patterns = is_within 1 most_patterns (length patterns) && list_all is_pattern patterns
 
 -- such patterns where the job has them, and else none
 abbrev pub are_patterns_of : Bool → List (List ℕ) → Bool

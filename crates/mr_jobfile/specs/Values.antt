@@ -8,6 +8,7 @@ use Rattle.mr_capacity.specs.declared.kinds.KeyKind.{KeyKind}
 use Rattle.mr_capacity.specs.declared.kinds.CombinerKind.{CombinerKind}
 use Rattle.mr_capacity.specs.declared.kinds.ReducerKind.{ReducerKind}
 use Rattle.mr_capacity.specs.declared.kinds.QueueKind.{QueueKind}
+use Rattle.mr_capacity.specs.declared.kinds.QueueKind.TheVariants as queue
 use Rattle.mr_capacity.specs.declared.tables.Further.TheVariants as further
 use Rattle.mr_capacity.specs.Names.{job_names, container_names, key_names, combiner_names, reducer_names, queue_names}
 use Rattle.mr_capacity.specs.Same.{same_keys, same_further}
@@ -15,7 +16,6 @@ use Rattle.mr_capacity.specs.Tables.{Row, rows, is_row}
 use Rattle.mr_jobfile.specs.declared.key.JobKey.{JobKey}
 use Rattle.mr_jobfile.specs.declared.key.JobKey.TheVariants as key
 use Rattle.mr_jobfile.specs.declared.values.Values.{Values}
-use Rattle.mr_jobfile.specs.declared.defaults.TheConstants.{DEFAULT_QUEUE, DEFAULT_PARTITIONS, DEFAULT_TEXT_CHUNK, DEFAULT_CHUNK}
 use Rattle.mr_jobfile.specs.Keys.{key_text}
 use Rattle.mr_jobfile.specs.Ranges.{is_text_job}
 use Rattle.mr_jobfile.specs.Forms.{number_in, kind_in, texts_in}
@@ -78,9 +78,15 @@ pub record SeenJob : Type 0 where
   pub rounds : ℕ
   pub patterns : List (List ℕ)
 
--- the chunk of a job whose file gives no number
+-- the queue, the partitions and the chunk of a job whose file gives none
+abbrev pub default_queue : QueueKind
+default_queue = queue.Blocks
+
+abbrev pub default_partitions : ℕ
+default_partitions = 16
+
 abbrev pub default_chunk : JobKind → ℕ
-default_chunk job = if is_text_job job then DEFAULT_TEXT_CHUNK else DEFAULT_CHUNK
+default_chunk job = if is_text_job job then 65536 else 64
 
 -- the job of a row with this key kind; defaults stand in for what the file doesn't say
 abbrev pub job_with : Values → JobKind → ContainerKind → ℕ → CombinerKind → KeyKind → SeenJob
@@ -91,8 +97,8 @@ job_with v job container capacity combiner keys = record {
   keys = keys;
   combiner = combiner;
   reducer = v.reducer;
-  queue = unwrap_or v.queue DEFAULT_QUEUE;
-  partitions = unwrap_or v.partitions DEFAULT_PARTITIONS;
+  queue = unwrap_or v.queue default_queue;
+  partitions = unwrap_or v.partitions default_partitions;
   chunk = unwrap_or v.chunk (default_chunk job);
   clusters = unwrap_or v.clusters 0;
   rounds = unwrap_or v.rounds 0;

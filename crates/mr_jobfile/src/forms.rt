@@ -4,7 +4,7 @@ ghost use Rattle.toml.specs.Data.{as_str, get_member};
 ghost use Rattle.toml.specs.View.{table_view, view};
 ghost use Rattle.mr_capacity.specs.Names.{entries};
 ghost use Rattle.mr_jobfile.specs.Forms.{first_bad, fits, is_bad, is_there, kind_in, number_in, texts_in};
-ghost use Rattle.mr_jobfile.specs.Ranges.{are_patterns, is_pattern, is_within};
+ghost use Rattle.mr_jobfile.specs.Ranges.{are_patterns, is_pattern, is_within, most_patterns};
 
 use crate::built::{BUILT_COMBINERS, BUILT_CONTAINERS, BUILT_JOBS, BUILT_QUEUES};
 use crate::key::{ALL_KEYS, JobKey};
@@ -83,7 +83,7 @@ fn each_is_pattern(items: &[Value]) -> bool
 }
 
 fn has_patterns(items: &[Value]) -> bool
-    ensures { result ≡ (is_within 1 16 (length items.now) && list_all (λ v. is_there is_pattern (as_str (view v))) items.now) }
+    ensures { result ≡ (is_within 1 most_patterns (length items.now) && list_all (λ v. is_there is_pattern (as_str (view v))) items.now) }
 {
     is_within(1, 16, items.len()) && each_is_pattern(items)
 }

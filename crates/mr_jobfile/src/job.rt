@@ -1,7 +1,7 @@
 ghost use Rattle.std.specs.Prelude.{◌≡◌, IsTrue, pos};
 ghost use Rattle.mr_capacity.specs.Tables.{is_capacity, is_pairing};
 ghost use Rattle.mr_jobfile.specs.Forms.{is_built_combiner, is_built_container, is_built_job, is_built_queue};
-ghost use Rattle.mr_jobfile.specs.Ranges.{are_patterns_of, has_means, has_patterns, is_count_of, is_within};
+ghost use Rattle.mr_jobfile.specs.Ranges.{most_partitions, greatest_chunk, most_clusters, most_rounds, are_patterns_of, has_means, has_patterns, is_count_of, is_within};
 
 use mr_base::Patterns;
 use mr_capacity::{CombinerKind, ContainerKind, JobKind, KeyKind, QueueKind, ReducerKind};
@@ -35,9 +35,9 @@ pub struct Job {
     pub ghost queue_is_built: { IsTrue (is_built_queue queue) },
     pub ghost capacity_is_allowed: { IsTrue (is_capacity (pos capacity)) },
     pub ghost pairing_is_allowed: { IsTrue (is_pairing job container keys combiner reducer) },
-    pub ghost partitions_in_range: { IsTrue (is_within 1 64 partitions) },
-    pub ghost chunk_in_range: { IsTrue (is_within 1 16777216 chunk) },
-    pub ghost clusters_in_range: { IsTrue (is_count_of (has_means job) 64 clusters) },
-    pub ghost rounds_in_range: { IsTrue (is_count_of (has_means job) 1000 rounds) },
+    pub ghost partitions_in_range: { IsTrue (is_within 1 most_partitions partitions) },
+    pub ghost chunk_in_range: { IsTrue (is_within 1 greatest_chunk chunk) },
+    pub ghost clusters_in_range: { IsTrue (is_count_of (has_means job) most_clusters clusters) },
+    pub ghost rounds_in_range: { IsTrue (is_count_of (has_means job) most_rounds rounds) },
     pub ghost patterns_in_range: { IsTrue (are_patterns_of (has_patterns job) patterns) },
 }
