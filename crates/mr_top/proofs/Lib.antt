@@ -1,6 +1,4 @@
-mod Same
-mod Stops
+mod Stages
 mod InTurn
-mod Counted
-mod Steps
-mod Built
+mod Ends
+pub mod Said

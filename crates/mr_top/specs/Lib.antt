@@ -1,6 +1,5 @@
-pub mod Answer
-pub mod Refuses
+pub mod Stages
+pub mod RunEnding
+pub mod Halts
 pub mod Means
-pub mod Lines
 pub mod Written
-pub mod Counted

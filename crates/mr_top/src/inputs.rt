@@ -1,78 +1,54 @@
-ghost use Rattle.std.specs.Prelude.{◌≡◌, ◌<◌, ◌≤◌, ◌++◌, slice_index_or, ◌∷◌, [], All, IfOk, IfErr, OnOk, List, ℕ, codes, length};
+ghost use Rattle.std.specs.Prelude.{◌≡◌, ◌<◌, ◌≤◌, ◌++◌, ◌∷◌, slice_index_or, [], All, IfOk, IfErr, IfSome, OnOk, Ok, Some, codes, length};
+ghost use Rattle.mr_base.specs.declared.status.Status.TheVariants as status;
 ghost use Rattle.mr_items.specs.FaultLines.{input_line, inputs_line};
-ghost use Rattle.mr_outside.specs.Shelf.{HasContent};
-ghost use Rattle.mr_top.specs.Answer.{Answer, Contents, counted_inputs, input_answer, input_limit, inputs_answer, inputs_wanted};
-ghost use Rattle.mr_top.specs.Lines.{StopsInput, WritesInput};
-ghost use Rattle.mr_top.specs.Refuses.{IsAnswer, IsBehindJob, Refuses};
+ghost use Rattle.mr_jobs.specs.JobEnding.{input_limit, inputs_wanted};
+ghost use Rattle.mr_jobs.specs.Meets.{IsOfInputs, Meets};
+ghost use Rattle.mr_top.specs.Halts.{Halts, IsPastJob};
+ghost use Rattle.mr_top.specs.RunEnding.{counted, input_at, input_in, inputs_from, inputs_of};
+ghost use Rattle.mr_top.specs.Stages.{ComesTo};
 
-use crate::refusal::Refusal;
-use mr_base::{Memory, Stop, Text, Word};
+use crate::halt::Halt;
+use crate::reading::take_bytes;
+use mr_base::{Memory, Status, Stop, Text, Word};
 use mr_capacity::JobKind;
-use mr_outside::{ReadStop, Shelf, Taken, read_all};
+use mr_jobs::{Refusal, input_words, wanted};
+use mr_outside::{Shelf, Taken};
 use std::alloc::Global;
 
-// How many inputs a job has.
-fn wanted(kind: JobKind) -> u32
-    ensures { result ≡ inputs_wanted kind }
-{
-    match kind {
-        JobKind::MatrixProduct => 2,
-        _ => 1,
-    }
-}
-
-// `fault: inputs GIVEN of WANTED`
-fn number_line(alloc: Global, given: usize, wanted: u32) -> Result<Text, Memory>
-    ensures { IfOk result (λ line. line ≡ inputs_line given wanted) }
-{
-    let mut line = Text::new(alloc);
-    line.push(b"fault: inputs ")?;
-    line.push_number(given as i128)?;
-    line.push(b" of ")?;
-    line.push_number(wanted as i128)?;
-    line.push(b"\n")?;
-    Ok(line)
-}
-
-// `fault: input NUMBER too long`
-fn length_line(alloc: Global, number: usize) -> Result<Text, Memory>
-    ensures { IfOk result (λ line. line ≡ input_line number (codes "too long")) }
-{
-    let mut line = Text::new(alloc);
-    line.push(b"fault: input ")?;
-    line.push_number(number as i128)?;
-    line.push(b" too long\n")?;
-    Ok(line)
-}
+// The most bytes of an input.
+const LIMIT: u64 = 134217728;
 
 // The refusal of so many inputs, where another number is wanted.
-fn refused_number(alloc: Global, given: usize, wanted: u32) -> Refusal
-    ensures { WritesInput (inputs_line given wanted) result }
+fn refused_number(alloc: Global, given: usize, wanted: u32) -> Result<Refusal, Memory>
+    ensures status { IfOk result (λ r. r.status ≡ status.Input) }
+    ensures line { IfOk result (λ r. r.line ≡ inputs_line given wanted) }
 {
-    match number_line(alloc, given, wanted) {
-        Ok(line) => Refusal::Input(line),
-        Err(_) => Refusal::Memory,
-    }
+    let mut words = Text::new(alloc);
+    words.push(b"inputs ")?;
+    words.push_number(given as i128)?;
+    words.push(b" of ")?;
+    words.push_number(wanted as i128)?;
+    Refusal::of(alloc, Status::Input, words.as_bytes())
 }
 
 // The refusal of an input that is too long.
-fn refused_length(alloc: Global, number: usize) -> Refusal
-    ensures { WritesInput (input_line number (codes "too long")) result }
+fn refused_length(alloc: Global, number: usize) -> Result<Refusal, Memory>
+    ensures status { IfOk result (λ r. r.status ≡ status.Input) }
+    ensures line { IfOk result (λ r. r.line ≡ input_line number (codes "too long")) }
 {
-    match length_line(alloc, number) {
-        Ok(line) => Refusal::Input(line),
-        Err(_) => Refusal::Memory,
-    }
+    let words = input_words(alloc, number, b"too long")?;
+    Refusal::of(alloc, Status::Input, words.as_bytes())
 }
 
-// The refusal of the input with this number, which can't be read whole.
-fn stopped_input(alloc: Global, number: usize, stop: Stop<ReadStop>) -> Refusal
-    ensures { StopsInput number stop result }
+// The bytes of the input with this number, of which None stands for one that is too long.
+fn input_in(alloc: Global, number: usize, read: Option<Taken>) -> Result<Taken, Stop<Refusal>>
+    ensures meets { Meets (input_in number read) result }
+    ensures of_inputs { IsOfInputs result }
+    ensures same { IfOk result (λ taken. read ≡ Some taken) }
 {
-    match stop {
-        Stop::Refused(ReadStop::TooLong) => refused_length(alloc, number),
-        Stop::Refused(ReadStop::Fault(_)) => Refusal::Read,
-        Stop::Memory => Refusal::Memory,
+    match read {
+        Some(taken) => Ok(taken),
+        None => Err(Stop::Refused(refused_length(alloc, number)?)),
     }
 }
 
@@ -82,21 +58,18 @@ fn take_input<H: Shelf>(
     shelf: &mut H,
     name: &str,
     number: usize,
-) -> Result<Taken, Refusal>
+) -> Result<Taken, Halt>
     ensures kept { H.contents shelf.new ≡ H.contents shelf.old }
     ensures later { H.count shelf.old ≤ H.count shelf.new }
-    ensures ok { IfOk result (λ taken. HasContent (H.contents shelf.old) name.now (λ bytes. (taken ≡ bytes)
-        × (length bytes ≤ input_limit))) }
+    ensures ok { IfOk result (λ taken. ComesTo (H.contents shelf.old) (input_at number name.now) (Ok taken)) }
     ensures short { IfOk result (λ taken. length taken ≤ input_limit) }
-    ensures err { IfErr result (λ r. (next : Contents → List ℕ → Answer) → Refuses r (H.contents shelf.old)
-        (λ content. input_answer number (content name.now) (next content)) (H.count shelf.old)
+    ensures err { IfErr result (λ h. Halts h (H.contents shelf.old) (input_at number name.now) (H.count shelf.old)
         (H.count shelf.new)) }
-    ensures behind { IfErr result IsBehindJob }
+    ensures behind { IfErr result IsPastJob }
 {
-    match read_all(alloc, shelf, name, 134217728) {
-        Ok(taken) => Ok(taken),
-        Err(stop) => Err(stopped_input(alloc, number, stop)),
-    }
+    let read = take_bytes(alloc, shelf, name, LIMIT)?;
+    let taken = input_in(alloc, number, read)?;
+    Ok(taken)
 }
 
 fn text_at(words: &[Word], place: usize) -> &str
@@ -115,26 +88,37 @@ fn keep(inputs: &mut Vec<Taken>, taken: Taken) -> Result<(), Memory>
 }
 
 // Reads the inputs of these names in their order.
-fn take_all<H: Shelf>(alloc: Global, shelf: &mut H, names: &[Word]) -> Result<Vec<Taken>, Refusal>
+fn take_all<H: Shelf>(alloc: Global, shelf: &mut H, names: &[Word]) -> Result<Vec<Taken>, Halt>
     requires { length names.now ≤ 2 }
-    ensures kept { H.contents shelf.new ≡ H.contents shelf.old }
     ensures later { H.count shelf.old ≤ H.count shelf.new }
-    ensures ok { IfOk result (λ taken. (next : List (List ℕ) → Answer) → IsAnswer (H.contents shelf.old)
-        (λ content. inputs_answer content 1 names.now next) (next taken.items)) }
+    ensures ok { IfOk result (λ taken. ComesTo (H.contents shelf.old) (inputs_from 1 names.now) (Ok taken.items)) }
     ensures short { IfOk result (λ taken. All (λ bytes. length bytes ≤ input_limit) taken.items) }
     ensures count { IfOk result (λ taken. length taken.items ≡ length names.now) }
-    ensures err { IfErr result (λ r. (next : List (List ℕ) → Answer) → Refuses r (H.contents shelf.old)
-        (λ content. inputs_answer content 1 names.now next) (H.count shelf.old) (H.count shelf.new)) }
-    ensures behind { IfErr result IsBehindJob }
+    ensures err { IfErr result (λ h. Halts h (H.contents shelf.old) (inputs_from 1 names.now) (H.count shelf.old)
+        (H.count shelf.new)) }
+    ensures behind { IfErr result IsPastJob }
 {
     let mut inputs = Vec::new(alloc);
     for place in 0..names.len() {
         match take_input(alloc, shelf, text_at(names, place), place + 1) {
             Ok(taken) => keep(&mut inputs, taken)?,
-            Err(refusal) => return Err(refusal),
+            Err(halt) => return Err(halt),
         }
     }
     Ok(inputs)
+}
+
+// The number of inputs, where it is that of the job.
+fn counted(alloc: Global, kind: JobKind, given: usize) -> Result<usize, Stop<Refusal>>
+    ensures meets { Meets (counted kind given) result }
+    ensures of_inputs { IsOfInputs result }
+    ensures count { IfOk result (λ n. (n ≡ given) × (n ≡ inputs_wanted kind)) }
+{
+    let wanted = wanted(kind);
+    if given != wanted as usize {
+        return Err(Stop::Refused(refused_number(alloc, given, wanted)?));
+    }
+    Ok(given)
 }
 
 /// Reads the inputs of these names, where there are as many as the job has.
@@ -143,24 +127,16 @@ pub fn take_inputs<H: Shelf>(
     shelf: &mut H,
     kind: JobKind,
     names: &[Word],
-) -> Result<Vec<Taken>, Refusal>
+) -> Result<Vec<Taken>, Halt>
     ensures later { H.count shelf.old ≤ H.count shelf.new }
-    ensures ok { IfOk result (λ taken. (next : List (List ℕ) → Answer) → IsAnswer (H.contents shelf.old)
-        (λ content. counted_inputs kind (length names.now) (inputs_answer content 1 names.now next))
-        (next taken.items)) }
+    ensures ok { IfOk result (λ taken. ComesTo (H.contents shelf.old) (inputs_of kind names.now) (Ok taken.items)) }
     ensures short { IfOk result (λ taken. All (λ bytes. length bytes ≤ input_limit) taken.items) }
     ensures count { IfOk result (λ taken. length taken.items ≡ inputs_wanted kind) }
-    ensures err { IfErr result (λ r. (next : List (List ℕ) → Answer) → Refuses r (H.contents shelf.old)
-        (λ content. counted_inputs kind (length names.now) (inputs_answer content 1 names.now next))
-        (H.count shelf.old) (H.count shelf.new)) }
-    ensures behind { IfErr result IsBehindJob }
+    ensures err { IfErr result (λ h. Halts h (H.contents shelf.old) (inputs_of kind names.now) (H.count shelf.old)
+        (H.count shelf.new)) }
+    ensures behind { IfErr result IsPastJob }
 {
-    let wanted = wanted(kind);
-    if names.len() != wanted as usize {
-        return Err(refused_number(alloc, names.len(), wanted));
-    }
-    match take_all(alloc, shelf, names) {
-        Ok(inputs) => Ok(inputs),
-        Err(refusal) => Err(refusal),
-    }
+    let _count = counted(alloc, kind, names.len())?;
+    let inputs = take_all(alloc, shelf, names)?;
+    Ok(inputs)
 }

@@ -1,57 +1,64 @@
-ghost use Rattle.std.specs.Prelude.{◌≡◌, ◌≤◌, IfOk, IfErr, Ok, is_some, true};
-ghost use Rattle.mr_outside.specs.Shelf.{HasContent};
-ghost use Rattle.mr_jobfile.specs.JobOf.{job_of};
+ghost use Rattle.std.specs.Prelude.{◌≡◌, ◌≤◌, IfOk, IfErr, Ok, Err, Some, is_some, true, length};
+ghost use Rattle.mr_base.specs.declared.status.Status.TheVariants as status;
 ghost use Rattle.mr_jobfile.specs.Seen.{seen};
-ghost use Rattle.mr_jobfile.specs.Values.{SeenJob};
-ghost use Rattle.mr_top.specs.Answer.{Answer, Contents, job_file_answer};
-ghost use Rattle.mr_top.specs.Lines.{StopsJob, WritesJob};
-ghost use Rattle.mr_top.specs.Refuses.{IsBehindWords, IsJob, Refuses};
+ghost use Rattle.mr_jobs.specs.Meets.{MeetsSeen};
+ghost use Rattle.mr_outside.specs.Shelf.{HasContent};
+ghost use Rattle.mr_top.specs.Halts.{Halts, IsOfJob, IsPastWords, HasJobStatus};
+ghost use Rattle.mr_top.specs.RunEnding.{job_at, job_in, judged};
+ghost use Rattle.mr_top.specs.Stages.{ComesTo};
 
-use crate::refusal::Refusal;
-use mr_base::{Stop, Text};
+use crate::halt::Halt;
+use crate::reading::take_bytes;
+use mr_base::{Memory, Status, Stop};
 use mr_jobfile::{Job, JobFault, fault_text, read_job};
-use mr_outside::{ReadStop, Shelf, read_all};
+use mr_jobs::Refusal;
+use mr_outside::{Shelf, Taken};
 use std::alloc::Global;
 
+// The most bytes of a job file.
+const LIMIT: u64 = 65536;
+
 // The refusal of a job file with this fault.
-fn refused_job(alloc: Global, fault: &JobFault) -> Refusal
-    ensures { WritesJob fault.now result }
+fn refused(alloc: Global, fault: &JobFault) -> Result<Refusal, Memory>
+    ensures fault { IfOk result (λ r. judged (Err fault.now) ≡ Err r) }
+    ensures status { IfOk result (λ r. r.status ≡ status.Job) }
 {
-    match fault_text(alloc, fault) {
-        Ok(line) => Refusal::Job(line),
-        Err(_) => Refusal::Memory,
-    }
+    let line = fault_text(alloc, fault)?;
+    Ok(Refusal {
+        status: Status::Job,
+        line,
+    })
 }
 
-// The refusal of a job file that can't be read whole.
-fn stopped_job(alloc: Global, stop: Stop<ReadStop>) -> Refusal
-    ensures { StopsJob stop result }
+// The job in a file, of which None stands for one that is too long.
+fn job_in(alloc: Global, read: Option<Taken>) -> Result<Job, Stop<Refusal>>
+    ensures meets { MeetsSeen seen (job_in read) result }
+    ensures of_job { HasJobStatus result }
 {
-    match stop {
-        Stop::Refused(ReadStop::TooLong) => refused_job(alloc, &JobFault::TooLong),
-        Stop::Refused(ReadStop::Fault(_)) => Refusal::Read,
-        Stop::Memory => Refusal::Memory,
+    let Some(taken) = read else {
+        return Err(Stop::Refused(refused(alloc, &JobFault::TooLong)?));
+    };
+    match read_job(alloc, taken.as_bytes()) {
+        Ok(job) => Ok(job),
+        Err(Stop::Refused(fault)) => Err(Stop::Refused(refused(alloc, &fault)?)),
+        Err(Stop::Memory) => Err(Stop::Memory),
     }
 }
 
 /// Reads the job file of this name, and the job in it.
-pub fn take_job<H: Shelf>(alloc: Global, shelf: &mut H, name: &str) -> Result<Job, Refusal>
+pub fn take_job<H: Shelf>(alloc: Global, shelf: &mut H, name: &str) -> Result<Job, Halt>
     ensures kept { H.contents shelf.new ≡ H.contents shelf.old }
     ensures later { H.count shelf.old ≤ H.count shelf.new }
-    ensures ok { IfOk result (λ j. HasContent (H.contents shelf.old) name.now (λ bytes. job_of bytes ≡ Ok (seen j))) }
-    ensures err { IfErr result (λ r. (next : Contents → SeenJob → Answer) → Refuses r (H.contents shelf.old)
-        (λ content. job_file_answer (content name.now) (next content)) (H.count shelf.old)
-        (H.count shelf.new)) }
-    ensures behind { IfErr result IsBehindWords }
-    ensures started { IfErr result (λ r. IsJob r → H.is_started shelf.new ≡ true) }
+    ensures ok { IfOk result (λ job. ComesTo (H.contents shelf.old) (job_at name.now) (Ok (seen job))) }
+    ensures err { IfErr result (λ h. Halts h (H.contents shelf.old) (job_at name.now) (H.count shelf.old) (H.count shelf.new)) }
+    ensures behind { IfErr result IsPastWords }
+    ensures started { IfErr result (λ h. IsOfJob h → H.is_started shelf.new ≡ true) }
     ensures named { is_some (H.contents shelf.old) ≡ true → H.is_started shelf.new ≡ true → H.started shelf.new ≡ name.now }
+    // After Ok the name was read to its end.
+    ensures open { IfOk result (λ job. H.is_started shelf.new ≡ true) }
+    ensures whole { IfOk result (λ job. HasContent (H.contents shelf.old) name.now (λ bytes. H.place shelf.new ≡ length bytes)) }
 {
-    match read_all(alloc, shelf, name, 65536) {
-        Ok(taken) => match read_job(alloc, taken.as_bytes()) {
-            Ok(job) => Ok(job),
-            Err(Stop::Refused(fault)) => Err(refused_job(alloc, &fault)),
-            Err(Stop::Memory) => Err(Refusal::Memory),
-        },
-        Err(stop) => Err(stopped_job(alloc, stop)),
-    }
+    let read = take_bytes(alloc, shelf, name, LIMIT)?;
+    let job = job_in(alloc, read)?;
+    Ok(job)
 }

@@ -1,22 +1,26 @@
-ghost use Rattle.std.specs.Prelude.{◌≡◌, ◌≤◌, ◌⊎◌, IfOk, IfErr, IfSome, List, ℕ, None, Option, Some, codes, is_some, true};
+ghost use Rattle.std.specs.Prelude.{◌≡◌, ◌≤◌, ◌⊎◌, All, IfOk, IfErr, IfSome, List, ℕ, None, Ok, Option, Some, codes, is_some, length, true};
 ghost use Rattle.std.specs.Io.KnownBytes.{Appends, Keeps};
 ghost use Rattle.mr_command.specs.Asked.{asked};
 ghost use Rattle.mr_command.specs.Form.{built_form};
+ghost use Rattle.mr_command.specs.declared.command.Mode.TheVariants as mode;
 ghost use Rattle.mr_jobfile.specs.Seen.{seen};
+ghost use Rattle.mr_jobs.specs.JobEnding.{input_limit, inputs_wanted, job_ending};
+ghost use Rattle.mr_jobs.specs.Meets.{IsOfInputs, MeetsSeen};
 ghost use Rattle.mr_outside.specs.Count.{Rose};
-ghost use Rattle.mr_top.specs.Answer.{Contents, answer, done, form_answer, run_answer};
-ghost use Rattle.mr_top.specs.Means.{Means, Tells};
-ghost use Rattle.mr_top.specs.Refuses.{IsAnswer, IsBehindJob, IsBehindWords, IsJob, IsMemory, IsUsage, ReadCause, Refuses};
+ghost use Rattle.mr_top.specs.Halts.{Halts, IsMemory, IsOfJob, IsPastJob, IsPastWords, IsUsage, ReadCause};
+ghost use Rattle.mr_top.specs.Means.{Means, ReadAlone, Tells};
+ghost use Rattle.mr_top.specs.RunEnding.{commanded, ran, run_ending, status_of};
+ghost use Rattle.mr_top.specs.Stages.{ComesTo, Contents};
 ghost use Rattle.mr_top.specs.Written.{Writes};
 
+use crate::halt::{Halt, WRITE_LINE};
 use crate::inputs::take_inputs;
 use crate::job::take_job;
-use crate::outcome::outcome;
-use crate::refusal::{Refusal, WRITE_LINE};
 use mr_base::{Memory, Status, Stop, Text, Word};
 use mr_command::{Command, Mode, read_command};
 use mr_jobfile::Job;
-use mr_outside::{Gate, Shelf, Sink, put_all};
+use mr_jobs::{Output, Refusal, run_job};
+use mr_outside::{Gate, Shelf, Sink, Taken, put_all};
 use std::alloc::Global;
 use std::thread::Threads;
 
@@ -29,74 +33,68 @@ fn checked(alloc: Global) -> Result<Text, Memory>
     Ok(text)
 }
 
-// Reads the inputs of a job and runs it on them.
-fn run_job<H: Shelf>(
-    alloc: Global,
-    shelf: &mut H,
-    job: &Job,
-    names: &[Word],
-) -> Result<Text, Refusal>
-    ensures later { H.count shelf.old ≤ H.count shelf.new }
-    ensures ok { IfOk result (λ text. IsAnswer (H.contents shelf.old) (run_answer (seen job.now) names.now) (done text)) }
-    ensures err { IfErr result (λ r. Refuses r (H.contents shelf.old) (run_answer (seen job.now) names.now)
-        (H.count shelf.old) (H.count shelf.new)) }
-    ensures behind { IfErr result IsBehindJob }
+// Runs the job on inputs that were read.
+fn on_inputs(alloc: Global, job: &Job, inputs: &Vec<Taken>) -> Result<Output, Stop<Refusal>>
+    requires count { length inputs.now.items ≡ inputs_wanted job.now.job }
+    requires short { All (λ bytes. length bytes ≤ input_limit) inputs.now.items }
+    ensures ending { MeetsSeen (λ o. o.text) (job_ending (seen job.now) inputs.now.items) result }
+    ensures of_inputs { IsOfInputs result }
 {
-    match take_inputs(alloc, shelf, job.job, names) {
-        Ok(inputs) => match outcome(alloc, job, &inputs) {
-            Ok(text) => Ok(text),
-            Err(refusal) => Err(refusal),
-        },
-        Err(refusal) => Err(refusal),
-    }
+    run_job(alloc, job, inputs)
+}
+
+// Reads the inputs of a job and runs it on them.
+fn ran<H: Shelf>(alloc: Global, shelf: &mut H, job: &Job, names: &[Word]) -> Result<Text, Halt>
+    ensures later { H.count shelf.old ≤ H.count shelf.new }
+    ensures ok { IfOk result (λ text. ComesTo (H.contents shelf.old) (ran (seen job.now) names.now) (Ok text)) }
+    ensures err { IfErr result (λ h. Halts h (H.contents shelf.old) (ran (seen job.now) names.now) (H.count shelf.old)
+        (H.count shelf.new)) }
+    ensures behind { IfErr result IsPastJob }
+{
+    let inputs = take_inputs(alloc, shelf, job.job, names)?;
+    let output = on_inputs(alloc, job, &inputs)?;
+    Ok(output.text)
 }
 
 // Does what a command asks, up to the first write.
-fn commanded<H: Shelf>(alloc: Global, command: &Command, shelf: &mut H) -> Result<Text, Refusal>
-    ensures ok { IfOk result (λ text. IsAnswer (H.contents shelf.old) (λ content. form_answer content
-        (asked command.now)) (done text)) }
-    ensures err { IfErr result (λ r. Refuses r (H.contents shelf.old) (λ content. form_answer content
-        (asked command.now)) (H.count shelf.old) (H.count shelf.new)) }
-    ensures behind { IfErr result IsBehindWords }
-    ensures started { IfErr result (λ r. IsJob r → H.is_started shelf.new ≡ true) }
-    ensures named { IfErr result (λ r. IsJob r → is_some (H.contents shelf.old) ≡ true
+fn commanded<H: Shelf>(alloc: Global, command: &Command, shelf: &mut H) -> Result<Text, Halt>
+    ensures ok { IfOk result (λ text. ComesTo (H.contents shelf.old) (commanded (asked command.now)) (Ok text)) }
+    ensures err { IfErr result (λ h. Halts h (H.contents shelf.old) (commanded (asked command.now)) (H.count shelf.old)
+        (H.count shelf.new)) }
+    ensures behind { IfErr result IsPastWords }
+    ensures started { IfErr result (λ h. IsOfJob h → H.is_started shelf.new ≡ true) }
+    ensures named { IfErr result (λ h. IsOfJob h → is_some (H.contents shelf.old) ≡ true
         → H.started shelf.new ≡ command.now.job) }
+    ensures checked { IfOk result (λ text. command.now.mode ≡ mode.Check → ReadAlone (H.contents shelf.old)
+        command.now.job (H.is_started shelf.new) (H.started shelf.new) (H.place shelf.new)) }
 {
-    let job = match take_job(alloc, shelf, command.job.as_str()) {
-        Ok(job) => job,
-        Err(refusal) => return Err(refusal),
-    };
-    match command.mode {
-        Mode::Check => match checked(alloc) {
-            Ok(text) => Ok(text),
-            Err(_) => Err(Refusal::Memory),
-        },
-        _ => match run_job(alloc, shelf, &job, &command.inputs) {
-            Ok(text) => Ok(text),
-            Err(refusal) => Err(refusal),
-        },
+    let job = take_job(alloc, shelf, command.job.as_str())?;
+    if command.mode == Mode::Check {
+        let text = checked(alloc)?;
+        return Ok(text);
     }
+    ran(alloc, shelf, &job, &command.inputs)
 }
 
 // Does what the words ask, up to the first write.
-fn judged<H: Shelf>(alloc: Global, words: &[Word], shelf: &mut H) -> Result<Text, Refusal>
-    ensures ok { IfOk result (λ text. IsAnswer (H.contents shelf.old) (answer words.now) (done text)) }
-    ensures err { IfErr result (λ r. Refuses r (H.contents shelf.old) (answer words.now) (H.count shelf.old)
+fn judged<H: Shelf>(alloc: Global, words: &[Word], shelf: &mut H) -> Result<Text, Halt>
+    ensures ok { IfOk result (λ text. ComesTo (H.contents shelf.old) (run_ending words.now) (Ok text)) }
+    ensures err { IfErr result (λ h. Halts h (H.contents shelf.old) (run_ending words.now) (H.count shelf.old)
         (H.count shelf.new)) }
     ensures formed { IfOk result (λ text. is_some (built_form words.now) ≡ true) }
-    ensures usage { IfErr result (λ r. IsUsage r → built_form words.now ≡ None) }
-    ensures behind { IfErr result (λ r. built_form words.now ≡ None → IsUsage r ⊎ IsMemory r) }
-    ensures started { IfErr result (λ r. IsJob r → H.is_started shelf.new ≡ true) }
-    ensures named { IfErr result (λ r. IsJob r → is_some (H.contents shelf.old) ≡ true → IfSome
+    ensures usage { IfErr result (λ h. IsUsage h → built_form words.now ≡ None) }
+    ensures behind { IfErr result (λ h. IsUsage h ⊎ IsPastWords h) }
+    ensures no_form { IfErr result (λ h. built_form words.now ≡ None → IsUsage h ⊎ IsMemory h) }
+    ensures started { IfErr result (λ h. IsOfJob h → H.is_started shelf.new ≡ true) }
+    ensures named { IfErr result (λ h. IsOfJob h → is_some (H.contents shelf.old) ≡ true → IfSome
         (built_form words.now) (λ f. H.started shelf.new ≡ f.job)) }
+    ensures checked { IfOk result (λ text. IfSome (built_form words.now) (λ f. f.mode ≡ mode.Check
+        → ReadAlone (H.contents shelf.old) f.job (H.is_started shelf.new) (H.started shelf.new) (H.place shelf.new))) }
 {
     match read_command(alloc, words) {
-        Ok(command) => match commanded(alloc, &command, shelf) {
-            Ok(text) => Ok(text),
-            Err(refusal) => Err(refusal),
-        },
-        Err(Stop::Refused(_)) => Err(Refusal::Usage),
-        Err(Stop::Memory) => Err(Refusal::Memory),
+        Ok(command) => commanded(alloc, &command, shelf),
+        Err(Stop::Refused(_)) => Err(Halt::Usage),
+        Err(Stop::Memory) => Err(Halt::Memory),
     }
 }
 
@@ -117,10 +115,10 @@ fn written<O: Sink, E: Sink>(text: &Text, out: &mut O, err: &mut E) -> Status
 /// Runs the command that the words ask for, of which the first is the program's name and means nothing.
 ///
 /// The words are read, then the job file, with at most 65536 bytes; in the mode `check` that is all. Then the inputs are counted and read whole in
-/// their order, each with at most 134217728 bytes, and the job runs on them. The first refusal that is met is the answer, and its line is written
+/// their order, each with at most 134217728 bytes, and the job runs on them. The run ends by the first refusal that is met, whose line is written
 /// to `err`. The output text is built before the first write to `out`.
 ///
-/// Contents are the shelf's, where it tells them; `answer` is the definition. What `err` does changes no status.
+/// Contents are the shelf's, where it tells them; `run_ending` is the definition. What `err` does changes no status.
 pub fn run<R: Threads + Sync, H: Shelf, O: Sink, E: Sink, G: Gate>(
     _rt: &R,
     alloc: Global,
@@ -130,8 +128,8 @@ pub fn run<R: Threads + Sync, H: Shelf, O: Sink, E: Sink, G: Gate>(
     err: &mut E,
     _gate: &G,
 ) -> Status
-    // The answer of the definition, and what the output gained by it.
-    ensures answers { Means result (H.contents shelf.old) words.now (O.held out.old) (O.held out.new) }
+    // How the definition ends, and what the output gained by it.
+    ensures ends { Means result (H.contents shelf.old) words.now (O.held out.old) (O.held out.new) }
     ensures lines { Tells result (H.contents shelf.old) words.now (E.held err.old) (E.held err.new)
         (E.count err.old) (E.count err.new) }
 
@@ -145,20 +143,23 @@ pub fn run<R: Threads + Sync, H: Shelf, O: Sink, E: Sink, G: Gate>(
         (built_form words.now) (λ f. H.started shelf.new ≡ f.job) }
 
     // Faults of reading and writing have a cause.
-    ensures read { result ≡ Status.ReadFault → ReadCause (H.contents shelf.old) (answer words.now)
+    ensures read { result ≡ Status.ReadFault → ReadCause (H.contents shelf.old) (run_ending words.now)
         (H.count shelf.old) (H.count shelf.new) }
     ensures write { result ≡ Status.WriteFault → Rose (O.count out.old) (O.count out.new) }
 
-    // Where the definition is done and no count rose, so is the run, or memory was wanted.
-    ensures complete { (content : Contents) (bytes : List ℕ) → H.contents shelf.old ≡ Some content → answer words.now content ≡ done bytes
+    // Where contents are told and no count rose, the status is the definition's, or memory was wanted.
+    ensures exact { (content : Contents) → H.contents shelf.old ≡ Some content
         → (Rose (H.count shelf.old) (H.count shelf.new) → ⊥) → (Rose (O.count out.old) (O.count out.new) → ⊥)
-        → (result ≡ Status.Done) ⊎ (result ≡ Status.Memory) }
+        → (result ≡ status_of (run_ending words.now content)) ⊎ (result ≡ Status.Memory) }
+    // To check a job is to read its file whole, and nothing more.
+    ensures checked { result ≡ Status.Done → IfSome (built_form words.now) (λ f. f.mode ≡ mode.Check
+        → ReadAlone (H.contents shelf.old) f.job (H.is_started shelf.new) (H.started shelf.new) (H.place shelf.new)) }
 {
     match judged(alloc, words, shelf) {
         Ok(text) => written(&text, out, err),
-        Err(refusal) => {
-            let _ = put_all(err, refusal.line());
-            refusal.status()
+        Err(halt) => {
+            let _ = put_all(err, halt.line());
+            halt.status()
         }
     }
 }

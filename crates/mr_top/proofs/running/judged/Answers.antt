@@ -1,13 +1,23 @@
-use Rattle.std.proofs.Common.{ap, Err}
+use Rattle.std.proofs.Common.{ap, subst, refl, IfOk, IfErr, Ok, Err}
 use Rattle.mr_command.specs.Asked.{asked}
-use Rattle.mr_top.proofs.Steps.{formed_answer, formed_refusal, no_form}
+use Rattle.mr_top.specs.Halts.{Halts}
+use Rattle.mr_top.specs.Stages.{ComesTo, usage}
+use Rattle.mr_top.proofs.Ends.{ending_of_form, ending_without}
+use Rattle.mr_top.proofs.Stages.{given_comes}
 use Rattle.mr_top.proofs.running.judged.Goals as goal
 
-pub returns-in-Ok-commanded-clause-ok : goal.returns-in-Ok-commanded-clause-ok
-returns-in-Ok-commanded-clause-ok g c = formed_answer (g.H.Shelf.contents c.args.shelf.now) c.args.words.now (asked c.in-Ok.command) c.in-Ok.ensures.ok _ c.in-Ok-commanded.ensures.ok
+pub returns-in-Ok-clause-ok : goal.returns-in-Ok-clause-ok
+returns-in-Ok-clause-ok g c =
+    subst (λ stage. IfOk c.commanded.result (λ text. ComesTo (g.H.Shelf.contents c.args.shelf.now) stage (Ok text)))
+    (ending_of_form c.args.words.now (asked c.in-Ok.command) c.in-Ok.ensures.ok) c.commanded.ensures.ok
 
 pub returns-in-Ok-clause-err : goal.returns-in-Ok-clause-err
-returns-in-Ok-clause-err g c = formed_refusal (g.H.Shelf.contents c.args.shelf.now) c.args.words.now (asked c.in-Ok.command) c.in-Ok.ensures.ok c.in-Err.refusal _ _ c.in-Err.ensures.err
+returns-in-Ok-clause-err g c =
+    subst (λ stage. IfErr c.commanded.result (λ h. Halts h (g.H.Shelf.contents c.args.shelf.now) stage (g.H.Shelf.count c.args.shelf.now) (g.H.Shelf.count c.commanded.new.shelf)))
+    (ending_of_form c.args.words.now (asked c.in-Ok.command) c.in-Ok.ensures.ok) c.commanded.ensures.err
 
 pub returns-in-Err-Refused-clause-err : goal.returns-in-Err-Refused-clause-err
-returns-in-Err-Refused-clause-err g c = no_form (g.H.Shelf.contents c.args.shelf.now) c.args.words.now (c.in-Err-Refused.ensures.usage c.in-Err-Refused.field-0-0 (ap Err c.in-Err-Refused.field-0-is))
+returns-in-Err-Refused-clause-err g c =
+    subst (λ stage. ComesTo (g.H.Shelf.contents c.args.shelf.now) stage usage)
+    (ending_without c.args.words.now (c.in-Err-Refused.ensures.usage c.in-Err-Refused.field-0-0 (ap Err c.in-Err-Refused.field-0-is)))
+    (given_comes _ usage usage refl)

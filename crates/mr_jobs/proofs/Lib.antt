@@ -1,0 +1,2 @@
+mod SameRound
+mod OneRound

@@ -1,0 +1,91 @@
+-- How a run ends, as a function of its words and of the contents by name.
+use Rattle.std.specs.Prelude.{ℕ, ◌+◌, ◌==◌, nat_lt, if◌then◌else◌, List, [], ◌∷◌, length, codes, Option, Some, None, Ok, Err}
+use Rattle.std.specs.Option.{option_map_or}
+use Rattle.std.specs.declared.result.Result.{Result}
+use Rattle.mr_base.specs.declared.status.Status.{Status}
+use Rattle.mr_base.specs.declared.status.Status.TheVariants as status
+use Rattle.mr_items.specs.FaultLines.{input_line, inputs_line}
+use Rattle.mr_command.specs.declared.command.Mode.{Mode}
+use Rattle.mr_command.specs.declared.command.Mode.TheVariants as mode
+use Rattle.mr_command.specs.Form.{Form, built_form}
+use Rattle.mr_capacity.specs.declared.kinds.JobKind.{JobKind}
+use Rattle.mr_jobfile.specs.declared.fault.JobFault.{JobFault}
+use Rattle.mr_jobfile.specs.declared.fault.JobFault.TheVariants as fault
+use Rattle.mr_jobfile.specs.FaultText.{job_line}
+use Rattle.mr_jobfile.specs.JobOf.{job_of}
+use Rattle.mr_jobfile.specs.Values.{SeenJob}
+use Rattle.mr_jobs.specs.Ending.{Ended, Ending, done, refused, passed}
+use Rattle.mr_jobs.specs.JobEnding.{job_ending, input_limit, inputs_wanted}
+use Rattle.mr_top.specs.Stages.{Contents, Stage, followed, usage, read_fault}
+
+-- what the words ask for
+abbrev pub formed : List (List ℕ) → Stage Form
+formed words content = option_map_or Ok (built_form words) usage
+
+-- these bytes, where they are no more than the limit
+abbrev pub within : ℕ → List ℕ → Option (List ℕ)
+within limit bytes = if nat_lt limit (length bytes) then None else Some bytes
+
+-- the bytes of a name, none where they are more than the limit
+abbrev pub bytes_at : List ℕ → ℕ → Stage (Option (List ℕ))
+bytes_at name limit content = option_map_or (λ bytes. Ok (within limit bytes)) (content name) read_fault
+
+-- the most bytes of a job file
+abbrev pub job_limit : ℕ
+job_limit = 65536
+
+-- the job that a reading gives, or the refusal of its fault
+abbrev pub judged : Result SeenJob JobFault → Ended SeenJob
+judged (Ok j) = Ok j
+judged (Err f) = refused status.Job (job_line f)
+
+-- the job of a file, none of one that is too long
+abbrev pub job_in : Option (List ℕ) → Ended SeenJob
+job_in None = judged (Err fault.TooLong)
+job_in (Some bytes) = judged (job_of bytes)
+
+abbrev pub job_at : List ℕ → Stage SeenJob
+job_at name = followed (bytes_at name job_limit) (λ read content. job_in read)
+
+-- the bytes of the input with this number, from 1
+abbrev pub input_in : ℕ → Option (List ℕ) → Ended (List ℕ)
+input_in number None = refused status.Input (input_line number (codes "too long"))
+input_in number (Some bytes) = Ok bytes
+
+abbrev pub input_at : ℕ → List ℕ → Stage (List ℕ)
+input_at number name = followed (bytes_at name input_limit) (λ read content. input_in number read)
+
+-- the inputs of these names in their order, from this number on
+abbrev pub inputs_from : ℕ → List (List ℕ) → Stage (List (List ℕ))
+inputs_from number [] = λ content. Ok []
+inputs_from number (name ∷ names) =
+    followed (input_at number name) (λ bytes. followed (inputs_from (number + 1) names) (λ rest content. Ok (bytes ∷ rest)))
+
+-- the number of inputs, where it is that of the job
+abbrev pub counted : JobKind → ℕ → Ended ℕ
+counted kind given = if given == inputs_wanted kind then Ok given else refused status.Input (inputs_line given (inputs_wanted kind))
+
+-- as many inputs as the job has
+abbrev pub inputs_of : JobKind → List (List ℕ) → Stage (List (List ℕ))
+inputs_of kind names = followed (λ content. counted kind (length names)) (λ count. inputs_from 1 names)
+
+-- the job on the inputs of these names
+abbrev pub ran : SeenJob → List (List ℕ) → Stage (List ℕ)
+ran j names = followed (inputs_of j.job names) (λ inputs content. job_ending j inputs)
+
+-- to check the job is all, or it runs
+abbrev pub by_mode : Mode → Stage (List ℕ) → Stage (List ℕ)
+by_mode mode.Check running = λ content. done (codes "ok\n")
+by_mode mode.Run running = running
+by_mode mode.Generate running = running
+
+abbrev pub commanded : Form → Stage (List ℕ)
+commanded f = followed (job_at f.job) (λ j. by_mode f.mode (ran j f.inputs))
+
+unfoldable pub run_ending : List (List ℕ) → Contents → Ending
+run_ending words = followed (formed words) commanded
+
+-- the status of an end
+abbrev pub status_of : Ending → Status
+status_of (Ok text) = status.Done
+status_of (Err r) = r.status
