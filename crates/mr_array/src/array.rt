@@ -12,38 +12,61 @@ use mr_base::{Faults, Key, Memory, NumKey, keep_lesser};
 use mr_combine::Combiner;
 use mr_container::{Cursor, Local, Parted};
 use std::alloc::Global;
+use std::marker::{Brand, PhantomData};
 
-/// The cells of the number keys below N, where N is from 1 to 65536.
+/// How many places arrays have, in contracts alone. A call at the type `Brand` picks it, so that one type serves arrays of every size.
+pub trait Size {
+    ghost size: { ℕ };
+}
+
+impl Size for Brand {
+    ghost size = { 1 };
+}
+
+/// The size N, where it is known as a const.
+pub struct Fixed<const N: usize>;
+
+impl<const N: usize> Size for Fixed<N> {
+    ghost size = { N };
+}
+
+/// The cells of the number keys below a size from 1 to 65536.
 ///
-/// A key is inside where it is below N, and its part is the key modulo the number of parts.
+/// A key is inside where it is below the size, and its part is the key modulo the number of parts.
 #[derive(Drop)]
-pub struct ArrayLocal<C: Combiner, const N: usize> {
+pub struct ArrayLocal<C: Combiner, S: Size> {
+    size: u32,
     cells: Vec<Option<C::Cell>>,
     keys: Vec<NumKey>,
     faults: Faults<NumKey>,
     alloc: Global,
-    ghost places: { vec_len cells ≡ N },
-    ghost few_places: { N ≤ 65536 },
-    ghost named: { keys.items ≡ range_with_len 0 N },
+    of: PhantomData<S>,
+    ghost sized: { size ≡ S.size },
+    ghost places: { vec_len cells ≡ S.size },
+    ghost few_places: { S.size ≤ 65536 },
+    ghost named: { keys.items ≡ range_with_len 0 S.size },
 }
 
-impl<C: Combiner, const N: usize> ArrayLocal<C, N> {
+impl<C: Combiner, S: Size> ArrayLocal<C, S> {
     /// A local with no cell. Takes the memory of all places; with a fixed combiner no pair takes any later.
-    pub fn new(alloc: Global) -> Result<ArrayLocal<C, N>, Memory>
-        requires some { 1 ≤ N }
-        requires few { N ≤ 65536 }
-        ensures empty { IfOk result (λ local. ⟦<ArrayLocal<C, N> as Local>⟧.stands local []) }
-        ensures inside { (k : ℕ) → ⟦<ArrayLocal<C, N> as Parted>⟧.inside k ≡ nat_lt k N }
-        ensures parts { (parts k : ℕ) → ⟦<ArrayLocal<C, N> as Parted>⟧.part_of parts k ≡ k % parts }
-        ensures spares { (s : _) (k : ℕ) → ⟦<ArrayLocal<C, N> as Local>⟧.spares s k ≡ (C.fixed || not (nat_lt k N)) }
+    pub fn new(alloc: Global, size: u32) -> Result<ArrayLocal<C, S>, Memory>
+        requires size { size ≡ S.size }
+        requires some { 1 ≤ size }
+        requires few { size ≤ 65536 }
+        ensures empty { IfOk result (λ local. ⟦<ArrayLocal<C, S> as Local>⟧.stands local []) }
+        ensures inside { (k : ℕ) → ⟦<ArrayLocal<C, S> as Parted>⟧.inside k ≡ nat_lt k S.size }
+        ensures parts { (parts k : ℕ) → ⟦<ArrayLocal<C, S> as Parted>⟧.part_of parts k ≡ k % parts }
+        ensures spares { (s : _) (k : ℕ) → ⟦<ArrayLocal<C, S> as Local>⟧.spares s k ≡ (C.fixed || not (nat_lt k S.size)) }
     {
-        let cells = empty_cells(alloc, N)?;
-        let keys = first_keys(alloc, N)?;
+        let cells = empty_cells(alloc, size as usize)?;
+        let keys = first_keys(alloc, size as usize)?;
         Ok(ArrayLocal {
+            size,
             cells,
             keys,
             faults: Faults::none(),
             alloc,
+            of: PhantomData,
         })
     }
 }
@@ -71,12 +94,12 @@ fn empty_cells<T: Drop>(alloc: Global, count: usize) -> Result<Vec<Option<T>>, M
     Ok(cells)
 }
 
-impl<C: Combiner, const N: usize> Local for ArrayLocal<C, N> {
+impl<C: Combiner, S: Size> Local for ArrayLocal<C, S> {
     type Key = NumKey;
 
     type Value = C::Value;
 
-    ghost stands = { λ s es. StandsFor ⟦<NumKey as Ord>⟧.cmp (is_below N) C.unit_of C.merged (cell_in s.cells.items) (filled s.cells.items) (noted_of s.faults) es };
+    ghost stands = { λ s es. StandsFor ⟦<NumKey as Ord>⟧.cmp (is_below S.size) C.unit_of C.merged (cell_in s.cells.items) (filled s.cells.items) (noted_of s.faults) es };
 
     ghost noted = { λ s. noted_of s.faults };
 
@@ -86,21 +109,21 @@ impl<C: Combiner, const N: usize> Local for ArrayLocal<C, N> {
 
     ghost same = { λ s t. (t.cells.items ≡ s.cells.items) × (noted_of t.faults ≡ noted_of s.faults) };
 
-    ghost spares = { λ s k. C.fixed || not (is_below N k) };
+    ghost spares = { λ s k. C.fixed || not (is_below S.size k) };
 
-    ghost any_order = { λ s es fs p h. any_order nat_cmp_total nat_cmp-IsAntisymmetric (is_below N) C.laws C.unit_of _ _ _ es fs p h };
+    ghost any_order = { λ s es fs p h. any_order nat_cmp_total nat_cmp-IsAntisymmetric (is_below S.size) C.laws C.unit_of _ _ _ es fs p h };
 
     ghost same_refl = { λ _. (refl, refl) };
 
     ghost same_keeps = { λ s t e.
-        (kept ⟦<NumKey as Ord>⟧.cmp (is_below N) C.unit_of C.merged _ _ _ _ _ _ (λ k. ap (λ cells. cell_in cells k) e.0) (ap filled e.0) e.1, e.1, ap filled e.0, λ k. refl) };
+        (kept ⟦<NumKey as Ord>⟧.cmp (is_below S.size) C.unit_of C.merged _ _ _ _ _ _ (λ k. ap (λ cells. cell_in cells k) e.0) (ap filled e.0) e.1, e.1, ap filled e.0, λ k. refl) };
 
     ghost origin_refl = { λ _. tt };
 
     ghost origin_trans = { λ _ _ _ _ _. tt };
 
     fn emit(&mut self, key: NumKey, value: C::Value) -> Result<(), Memory> {
-        if key.0 >= N as u64 {
+        if key.0 >= self.size as u64 {
             keep_lesser(&mut self.faults.outside, Some(key));
             return Ok(());
         }
@@ -116,7 +139,7 @@ impl<C: Combiner, const N: usize> Local for ArrayLocal<C, N> {
     }
 
     fn too_large(&mut self, key: NumKey) {
-        if key.0 < N as u64 {
+        if key.0 < self.size as u64 {
             keep_lesser(&mut self.faults.over, Some(key));
         } else {
             keep_lesser(&mut self.faults.outside, Some(key));
@@ -136,7 +159,7 @@ impl<C: Combiner, const N: usize> Local for ArrayLocal<C, N> {
     }
 }
 
-impl<C: Combiner, const N: usize> Parted for ArrayLocal<C, N> {
+impl<C: Combiner, S: Size> Parted for ArrayLocal<C, S> {
     ghost use Rattle.std.specs.Prelude.{◌≡◌, ◌==◌, ◌≤◌, ◌%◌, drop, filter};
     ghost use Rattle.std.proofs.Common.{ap};
     ghost use Rattle.mr_container.specs.Laws.{part_below};
@@ -145,7 +168,7 @@ impl<C: Combiner, const N: usize> Parted for ArrayLocal<C, N> {
 
     type Fold = C;
 
-    ghost inside = { is_below N };
+    ghost inside = { is_below S.size };
 
     ghost cell = { λ s k. cell_in s.cells.items k };
 
@@ -179,7 +202,7 @@ impl<C: Combiner, const N: usize> Parted for ArrayLocal<C, N> {
     }
 
     fn next(&self, cursor: &mut Cursor) -> Option<(&NumKey, &C::Cell)> {
-        while cursor.place < N as u64 {
+        while cursor.place < self.size as u64 {
             let place = cursor.place as usize;
             cursor.place += cursor.parts as u64;
             if let Some(cell) = &self.cells[place] {

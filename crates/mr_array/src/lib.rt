@@ -1,6 +1,6 @@
 //! The array container of a worker.
 //!
-//! `ArrayLocal` keeps one place for each number key below N. A key that is not below N is outside and noted. The part of a key is the key modulo
+//! `ArrayLocal` keeps one place for each number key below its size. A key that is not below it is outside and noted. The part of a key is the key modulo
 //! the number of parts, and a part is read off from its own places alone.
 //!
 //! Its promise: `ArrayLocal` meets the laws of `Local` and `Parted`. Its memory is taken when it is made, and with a fixed combiner a pair takes
@@ -11,4 +11,4 @@ mod array;
 #[cfg(test)]
 mod tests;
 
-pub use array::ArrayLocal;
+pub use array::{ArrayLocal, Fixed, Size};

@@ -1,6 +1,6 @@
 ghost use Rattle.std.specs.Prelude.{◌≤◌, ◌<◌};
 
-use crate::ArrayLocal;
+use crate::{ArrayLocal, Fixed};
 use mr_base::{Key, Memory, NumKey, Text};
 use mr_combine::{Buffer, Combiner, Single, Sum};
 use mr_container::{Local, Parted};
@@ -48,7 +48,7 @@ fn shown<L: Parted<Value = i64, Fold = Sum>>(
 #[test]
 fn keys_below_and_not_below(rt: HostRuntime) -> Result<(), Fail> {
     let alloc = rt.alloc();
-    let mut local: ArrayLocal<Sum, 16> = ArrayLocal::new(alloc)?;
+    let mut local: ArrayLocal<Sum, Fixed<16>> = ArrayLocal::new(alloc, 16)?;
     local.emit(NumKey(16), 1)?;
     local.emit(NumKey(15), 4)?;
     local.emit(NumKey(40), 1)?;
@@ -70,7 +70,7 @@ fn keys_below_and_not_below(rt: HostRuntime) -> Result<(), Fail> {
 #[test]
 fn cells_part_by_part(rt: HostRuntime) -> Result<(), Fail> {
     let alloc = rt.alloc();
-    let mut local: ArrayLocal<Sum, 768> = ArrayLocal::new(alloc)?;
+    let mut local: ArrayLocal<Sum, Fixed<768>> = ArrayLocal::new(alloc, 768)?;
     for (key, value) in [(767u32, 5i32), (0, 1), (65, -2), (6, 3), (65, 7), (1, 8)] {
         local.emit(NumKey(key as u64), value as i64)?;
     }
@@ -86,7 +86,7 @@ fn cells_part_by_part(rt: HostRuntime) -> Result<(), Fail> {
 #[test]
 fn values_of_a_buffer(rt: HostRuntime) -> Result<(), Fail> {
     let alloc = rt.alloc();
-    let mut local: ArrayLocal<Buffer, 1> = ArrayLocal::new(alloc)?;
+    let mut local: ArrayLocal<Buffer, Fixed<1>> = ArrayLocal::new(alloc, 1)?;
     local.emit(NumKey(0), 4)?;
     local.emit(NumKey(0), 2)?;
     let mut cursor = local.cursor(0, 1);

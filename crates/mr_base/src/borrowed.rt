@@ -96,6 +96,7 @@ impl<'a> PartialEq for SliceKey<'a> {
 
     ghost laws = { Prim.search (comparing, rules) };
 
+    #[inline(always)]
     fn eq(&self, other: &SliceKey<'a>) -> bool {
         let words = (self.first == other.first)
             & (self.second == other.second)

@@ -52,8 +52,7 @@ pub fn same_leads<K: Key, V, W>(entries: &[Entry<K, W>], block: &[(K, V)], place
 {
     for (place, pair) in places.iter_mut().zip(block) {
         let at = *place as usize;
-        if at < entries.len() && entries[at].key.lead() != pair.0.lead() {
-            *place = NOWHERE;
-        }
+        let differs = at < entries.len() && entries[at].key.lead() != pair.0.lead();
+        *place = if differs { NOWHERE } else { *place };
     }
 }

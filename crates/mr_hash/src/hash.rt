@@ -15,8 +15,8 @@ use mr_container::{Cursor, Local, Parted};
 use std::alloc::Global;
 use std::boxed::Box;
 
-// So many pairs of a block are looked for side by side.
-const SIDE_BY_SIDE: usize = 256;
+// So many pairs of a block are looked for side by side: as many as mappers hand over at once, and more.
+const SIDE_BY_SIDE: usize = 1024;
 
 /// Keys with their cells, in N buckets, where N is from 1 to 65536.
 ///

@@ -1,16 +1,19 @@
--- Lists that ascend don't fall, and a list of different keys that doesn't fall ascends.
-use Rattle.std.proofs.Common.{◌≡◌, false, List, [], ◌∷◌, map, refl, sym, ap, ◌∙◌, true≢false}
+-- Lists that ascend don't fall, and lists of different keys that don't fall ascend.
+use Rattle.std.proofs.Common.{◌≡◌, ◌≤◌, false, List, [], ◌∷◌, ◌++◌, length, map, refl, sym, ap, subst, ◌∙◌, arith, append-nil, true≢false}
 use Rattle.std.specs.Prelude.{All}
 use Rattle.std.specs.List.{AllByRecursion, IsDistinct}
 use Rattle.std.specs.List.Sorted.{IsPermutation, IsStrictlySortedBy}
+use Rattle.std.specs.declared.vec.Vec.{Vec}
 use Rattle.std.specs.declared.cmp.Ordering.{Ordering}
 use Rattle.std.specs.declared.cmp.Ordering.TheVariants.{Less, Equal, Greater}
 use Rattle.std.specs.Ordering.{eq_by_cmp, is_lt, is_eq, ordering_reverse}
 use Rattle.std.specs.Cmp.{IsTotalOrder, eq_by_cmp_equiv}
+use Rattle.std.proofs.lemmas.List.{length-append}
 use Rattle.std.proofs.lemmas.List.Elements.{All-head, All-tail, All-nil, All-cons}
 use Rattle.std.proofs.lemmas.List.Sorted.{IsPermutation-map}
 use Rattle.std.proofs.lemmas.Map.Keys.{IsDistinct-head, IsDistinct-tail, IsDistinct-IsPermutation}
 use Rattle.mr_merge.specs.Rising.{rank, AreAbove, Rises}
+use Rattle.mr_merge.specs.Lists.{rows_of, RisesEach}
 
 module _ {K : Type 0} {R : K → K → Ordering} (o : IsTotalOrder R) where
   less : (x y : K) → is_lt (R y x) ≡ false → eq_by_cmp R x y ≡ false → R x y ≡ Less
@@ -39,12 +42,21 @@ module _ {K A : Type 0} {R : K → K → Ordering} (o : IsTotalOrder R) where
   ascends [] h d = tt
   ascends (e ∷ es) h d = (less_each e es h.0 (IsDistinct-head _ _ _ d), ascends es h.1 (IsDistinct-tail _ _ _ d))
 
-  -- before the merge
-  pub start : (lists : List (List (K × A))) → All (λ list. IsStrictlySortedBy R (map (λ row. row.0) list)) lists → All (λ list. Rises (rank R) list) lists
-  start [] h = All-nil (λ list. Rises (rank R) list)
-  start (l ∷ lists) h =
-      All-cons (λ list. Rises (rank R) list) l lists (rises l (All-head (λ list. IsStrictlySortedBy R (map (λ row. row.0) list)) l lists h)) (start lists (All-tail (λ list. IsStrictlySortedBy R (map (λ row. row.0) list)) l lists h))
+  module _ {Z : Type 0} where
+    -- before the first level
+    pub start : (lists : List (Vec (K × A) Z)) → All (λ l. IsStrictlySortedBy R (map (λ e. e.0) l.items)) lists → RisesEach (rank R) lists
+    start [] h = All-nil (λ l. Rises (rank R) l.items)
+    start (l ∷ lists) h = All-cons (λ l. Rises (rank R) l.items) l lists (rises l.items (All-head (λ l. IsStrictlySortedBy R (map (λ e. e.0) l.items)) l lists h)) (start lists (All-tail (λ l. IsStrictlySortedBy R (map (λ e. e.0) l.items)) l lists h))
 
-  -- and after it
-  pub end : (whole rows : List (K × A)) → IsPermutation whole rows → Rises (rank R) rows → IsDistinct (eq_by_cmp R) (map (λ row. row.0) whole) → IsStrictlySortedBy R (map (λ row. row.0) rows)
-  end whole rows same up d = ascends rows up (IsDistinct-IsPermutation (eq_by_cmp R) ((eq_by_cmp_equiv o).symm) _ _ (IsPermutation-map (λ row. row.0) whole rows same) d)
+    -- at the end the one list has all rows
+    pub last : (whole : List (K × A)) (lists left : List (Vec (K × A) Z)) (rows : Vec (K × A) Z) → length lists ≤ 1 → lists ≡ left ++ rows ∷ [] → IsPermutation whole (rows_of lists) → RisesEach (rank R) lists → IsDistinct (eq_by_cmp R) (map (λ e. e.0) whole)
+        → IsPermutation whole rows.items × IsStrictlySortedBy R (map (λ e. e.0) rows.items)
+    last whole lists [] rows n e p r d =
+        let all : IsPermutation whole rows.items = subst (IsPermutation whole) (append-nil rows.items) (subst (λ l. IsPermutation whole (rows_of l)) e p) in
+        let up : RisesEach (rank R) (rows ∷ []) = subst (RisesEach (rank R)) e r in
+        (all, ascends rows.items (All-head (λ l. Rises (rank R) l.items) rows [] up) (IsDistinct-IsPermutation (eq_by_cmp R) ((eq_by_cmp_equiv o).symm) _ _ (IsPermutation-map (λ e. e.0) whole rows.items all) d))
+    last whole lists (l ∷ left) rows n e p r d = let a = ap length e ∙ length-append (l ∷ left) (rows ∷ []) in absurd (omega (arith, a, n))
+
+pub empty_ascends : {K : Type 0} (R : K → K → Ordering) → IsStrictlySortedBy R []
+unfolding IsStrictlySortedBy
+empty_ascends R = tt

@@ -1,3 +1,5 @@
-pub mod Ends
 pub mod Merging
-pub mod Order
+pub mod Pairs
+pub mod Ends
+pub mod Leads
+pub mod Entries

@@ -1,14 +1,15 @@
 //! The merge of lists of rows.
 //!
-//! Lists that ascend are runs. The run that begins with the least key gives its first row to the merged list and goes back to its place among the
-//! others, which a search by halves finds: so a row costs as many comparisons as the number of runs has binary digits, and is moved once.
+//! Each two lists are merged beside the others, in threads where they can be made, and then each two of what came of them, until one is left. A row
+//! is moved once for each level, and most keys are told apart by their leads.
 //!
 //! Its promise: of lists that ascend and whose keys differ come all their rows, ascending by key.
 #![tactic(auto)]
 
+mod levels;
 mod merge;
-mod runs;
 #[cfg(test)]
 mod tests;
+mod two;
 
 pub use merge::merge_all;

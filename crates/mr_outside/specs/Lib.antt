@@ -6,3 +6,4 @@ pub mod Calls
 pub mod MemoryShelf
 pub mod MemorySink
 pub mod Entry
+pub mod Machine

@@ -1,9 +1,41 @@
 ghost use Rattle.std.specs.Prelude.{◌≡◌, is_some, None, [], false};
+ghost use Rattle.mr_outside.specs.Machine.{got_of, put_of, taken_of};
 
 use crate::{Got, Put, Shelf, Sink, Started};
 use std::fs;
 use std::io::{Read, Write};
 use std::rt::Files;
+
+// What a read of a file comes to: one without a byte is at its end.
+fn got<E>(read: &Result<usize, E>) -> Got
+    ensures { result ≡ got_of read.now }
+{
+    match read {
+        Ok(0) => Got::End,
+        Ok(n) => Got::Bytes(*n),
+        Err(_) => Got::Failed,
+    }
+}
+
+// How many bytes a write took, where it took one at least.
+fn taken<E>(written: &Result<usize, E>) -> Option<usize>
+    ensures { result ≡ taken_of written.now }
+{
+    match written {
+        Ok(0) | Err(_) => None,
+        Ok(n) => Some(*n),
+    }
+}
+
+// What a write of so many bytes comes to, which were flushed so.
+fn put<E>(taken: usize, flushed: &Result<(), E>) -> Put
+    ensures { result ≡ put_of taken flushed.now }
+{
+    match flushed {
+        Ok(()) => Put::Took(taken),
+        Err(_) => Put::Failed,
+    }
+}
 
 /// The files of the machine, by path. It tells no contents.
 #[derive(Drop)]
@@ -60,17 +92,13 @@ impl<R: Files> Shelf for FileShelf<'_, R> {
             Some(file) => file.read(buf),
             None => unreachable!(),
         };
-        match read {
-            Ok(0) => Got::End,
-            Ok(n) => {
-                self.place = self.place.saturating_add(n as u64);
-                Got::Bytes(n)
-            }
-            Err(_) => {
-                self.faults = self.faults.saturating_add(1);
-                Got::Failed
-            }
+        let got = got(&read);
+        match got {
+            Got::Bytes(n) => self.place = self.place.saturating_add(n as u64),
+            Got::End => {}
+            Got::Failed => self.faults = self.faults.saturating_add(1),
         }
+        got
     }
 
     fn faults(&self) -> u64 {
@@ -100,17 +128,15 @@ impl<W: Write> Sink for StdSink<W> {
     ghost count = { λ s. s.faults };
 
     fn write(&mut self, piece: &[u8]) -> Put {
-        let taken = match self.writer.write(piece) {
-            Ok(0) | Err(_) => None,
-            Ok(n) => self.writer.flush().ok().map(|()| n),
+        let written = self.writer.write(piece);
+        let put = match taken(&written) {
+            Some(n) => put(n, &self.writer.flush()),
+            None => Put::Failed,
         };
-        match taken {
-            Some(n) => Put::Took(n),
-            None => {
-                self.faults = self.faults.saturating_add(1);
-                Put::Failed
-            }
+        if put == Put::Failed {
+            self.faults = self.faults.saturating_add(1);
         }
+        put
     }
 
     fn faults(&self) -> u64 {

@@ -135,11 +135,12 @@ fn writes_and_reads_a_file(rt: HostRuntime) -> Result<(), Fail> {
     Ok(())
 }
 
-// A writer that takes four bytes, two at a time, and then no more: with an error or without one.
+// A writer that takes so many bytes, two at a time, and then no more, with an error or without one; and that flushes or doesn't.
 #[derive(Drop)]
 struct Narrow {
     left: usize,
     errs: bool,
+    flushes: bool,
 }
 
 impl Write for Narrow {
@@ -153,19 +154,34 @@ impl Write for Narrow {
     }
 
     fn flush(&mut self) -> io::Result<()> {
-        Ok(())
+        if self.flushes {
+            Ok(())
+        } else {
+            Err(io::ErrorKind::Other.into())
+        }
     }
 }
 
 #[test]
 fn counts_the_faults_of_a_writer(rt: HostRuntime) {
     for errs in [false, true] {
-        let mut sink = StdSink::new(Narrow { left: 4, errs });
+        let mut sink = StdSink::new(Narrow {
+            left: 4,
+            errs,
+            flushes: true,
+        });
         assert_eq!(rt; put_all(&mut sink, b"abc"), Ok(()));
         assert_eq!(rt; sink.faults(), 0);
         assert_eq!(rt; put_all(&mut sink, b"def"), Err(WriteFault));
         assert_eq!(rt; sink.faults(), 1);
     }
+    let mut sink = StdSink::new(Narrow {
+        left: 4,
+        errs: false,
+        flushes: false,
+    });
+    assert_eq!(rt; put_all(&mut sink, b"a"), Err(WriteFault));
+    assert_eq!(rt; sink.faults(), 1);
 }
 
 fn pass<G: Gate + Sync>(gate: &G) {

@@ -1,10 +1,8 @@
 pub mod Blocking
 pub mod Taken
 pub mod Sorts
-pub mod Ascending
 pub mod SameKeys
 pub mod Final
-pub mod Turns
 pub mod Folding
 pub mod Gathering
 pub mod Partitions
@@ -12,3 +10,6 @@ pub mod Everyone
 pub mod Finish
 pub mod Ordered
 pub mod Sharing
+pub mod Packing
+pub mod Ordering
+pub mod Kept

@@ -12,7 +12,7 @@ use Rattle.mr_defs.specs.Stands.{cell_of}
 use Rattle.mr_defs.proofs.Ascending.{marked, ascending_sorted}
 use Rattle.mr_container.proofs.Counting.{any-ascending, is_some-cell_of}
 use Rattle.mr_container.proofs.Orders.{is_Equal, both_first, both_second}
-use Rattle.mr_phase.proofs.Ascending.{both}
+use Rattle.mr_phase.proofs.Folding.{both}
 
 unmarked : {K : Type 0} (ks : List K) → map (λ e. e.0) (marked ks) ≡ ks
 unmarked [] = refl

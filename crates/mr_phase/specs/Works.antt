@@ -31,3 +31,10 @@ abbrev pub AreFrom : {P L : Type 0} → List (Work P L) → List P → List (Han
 AreFrom {P} {L} works passes hands = (length passes ≡ length works) × (length hands ≡ length works)
     × ((i : ℕ) (d : Work P L) (p : P) (h : Hand L) → i < length works → let w = slice_index_or works (length works - (i + 1)) d in
     (slice_index_or passes i p ≡ w.pass) × ((slice_index_or hands i h).tasks ≡ w.tasks) × ((slice_index_or hands i h).local ≡ w.local) × (w.starved ≡ false))
+
+-- the hand has the same tasks, and nothing has changed that contracts see of its local
+abbrev pub IsSameHand : {L : Type 0} → (L → L → Type 0) → Hand L → Hand L → Type 0
+IsSameHand same old new = (new.tasks ≡ old.tasks) × same old.local new.local
+
+abbrev pub AreSameHands : {L : Type 0} → (L → L → Type 0) → List (Hand L) → List (Hand L) → Type 0
+AreSameHands {L} same olds news = (length news ≡ length olds) × ((i : ℕ) (d : Hand L) → i < length olds → IsSameHand same (slice_index_or olds i d) (slice_index_or news i d))

@@ -8,13 +8,14 @@
 //! combiner and reducer the job has.
 #![tactic(auto)]
 
-mod alone;
+mod ahead;
 mod blocks;
 mod calling;
 mod entries;
 mod hands;
 mod map;
 mod mapped;
+mod order;
 mod partition;
 mod reduce;
 mod taking;
@@ -22,7 +23,6 @@ mod taking;
 mod tests;
 mod together;
 
-pub use alone::{ReducedLocal, map_and_reduce, reduce_local};
 pub use blocks::{BlockPass, Blocks};
 pub use calling::gather;
 pub use hands::Hand;

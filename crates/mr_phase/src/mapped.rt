@@ -1,8 +1,15 @@
-ghost use Rattle.std.specs.Prelude.{◌≡◌, ◌<◌, length, slice_get, Some};
+ghost use Rattle.std.specs.Prelude.{◌≡◌, ◌<◌, ◌≤◌, ℕ, List, All, length, flat_map, slice_get, slice_index_or, Some};
+ghost use Rattle.mr_defs.specs.Emission.{Emission};
+ghost use Rattle.mr_phase.specs.Works.{IsSameHand, AreSameHands};
 
 use crate::hands::Hand;
 use mr_base::Few;
+use mr_combine::Combiner;
+use mr_container::Parted;
+use std::alloc::Global;
 use std::marker::Model;
+use std::thread;
+use std::thread::Threads;
 
 /// The hands of the workers, in the order of their numbers. It is seen as the list of them.
 #[derive(Drop)]
@@ -33,5 +40,59 @@ impl<L: Drop> Mapped<L> {
         ensures { slice_get self.now worker ≡ Some result.now }
     {
         self.hands.get(worker)
+    }
+}
+
+// Arranges each hand, in a thread of its own where one can be made. A hand that finds no memory stays as it was.
+fn arrange_hands<R: Threads + Sync, L: Parted + Send>(
+    rt: &R,
+    alloc: Global,
+    partitions: u32,
+    hands: &mut Few<Hand<L>>,
+)
+where
+    L::Key: Send,
+    L::Value: Send,
+    L::Fold: Send,
+    <L::Fold as Combiner>::Cell: Send,
+    requires { (1 ≤ partitions) × (partitions ≤ 64) }
+    ensures len { length hands.new.items ≡ length hands.old.items }
+    ensures each { (i : ℕ) (d : Hand L) → i < length hands.old.items → IsSameHand L.same (slice_index_or hands.old.items i d) (slice_index_or hands.new.items i d) }
+{
+    let count = hands.len().max(1);
+    let arrange_one = |_: usize, hand: &mut Hand<L>|
+        requires { (1 ≤ partitions) × (partitions ≤ 64) }
+        ensures { IsSameHand L.same hand.old hand.new }
+    {
+        let _kept = hand.local.arrange(alloc, partitions);
+    };
+    thread::for_each_mut(rt, hands.as_mut_slice(), count, &arrange_one);
+}
+
+// What hands stand for stays where nothing changes that contracts see.
+fn stands_stay<L: Parted>()
+    ensures { (pairs : ℕ → List (Emission L.Key L.Value)) (olds news : List (Hand L)) → AreSameHands L.same olds news
+        → All (λ h. L.stands h.local (flat_map pairs h.tasks.items)) olds → All (λ h. L.stands h.local (flat_map pairs h.tasks.items)) news }
+{}
+
+impl<L: Parted + Send> Mapped<L> {
+    /// Arranges the keys of each hand by partition, for the number of partitions by which they will be reduced, so that no partition is read past
+    /// the keys of others. Each hand has a thread of its own where one can be made.
+    ///
+    /// Nothing that contracts see changes. A hand that finds no memory stays as it was, and is read as well, only slower.
+    pub fn arrange<R: Threads + Sync>(&mut self, rt: &R, alloc: Global, partitions: u32)
+    where
+        L::Key: Send,
+        L::Value: Send,
+        L::Fold: Send,
+        <L::Fold as Combiner>::Cell: Send,
+        requires { (1 ≤ partitions) × (partitions ≤ 64) }
+        ensures same { AreSameHands L.same self.old self.new }
+        ensures tasks { flat_map (λ h. h.tasks.items) self.new ≡ flat_map (λ h. h.tasks.items) self.old }
+        ensures stands { (pairs : ℕ → List (Emission L.Key L.Value)) → All (λ h. L.stands h.local (flat_map pairs h.tasks.items)) self.old
+            → All (λ h. L.stands h.local (flat_map pairs h.tasks.items)) self.new }
+    {
+        stands_stay::<L>();
+        arrange_hands(rt, alloc, partitions, &mut self.hands);
     }
 }

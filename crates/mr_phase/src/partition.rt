@@ -6,8 +6,10 @@ ghost use Rattle.mr_phase.specs.Folded.{cell_in, fold_equal, seen_of};
 ghost use Rattle.mr_phase.specs.Partition.{IsReducedAt};
 ghost use Rattle.mr_phase.specs.Reduced.{entry_row, over_key};
 
-use crate::entries::{add_part, order};
+use crate::ahead::{SIDE_BY_SIDE, are_equal, next_entry};
+use crate::entries::add_part;
 use crate::mapped::Mapped;
+use crate::order::order;
 use mr_base::{Key, Memory, Rows, keep_lesser};
 use mr_combine::{Combiner, Reducer};
 use mr_container::Parted;
@@ -66,10 +68,10 @@ fn read_hands<L: Parted>(
 }
 
 // Merges neighbours of one key, the cell of the first copied and the others merged into it, and reduces what they come to.
-fn reduce_entries<K: Key, C: Combiner, R: Reducer<C>>(
+fn reduce_entries<'a, K: Key, C: Combiner, R: Reducer<C>>(
     alloc: Global,
     part: u32,
-    entries: Vec<(&K, &C::Cell)>,
+    entries: Vec<(&'a K, &'a C::Cell)>,
 ) -> Result<Partition<K>, Memory>
     ensures part { IfOk result (λ p. p.part ≡ part) }
     ensures rows { IfOk result (λ p. p.rows ≡ filter_map (entry_row C.over R.answer) (fold_equal K.cmp C.merged (seen_of entries.entry.items))) }
@@ -80,14 +82,18 @@ fn reduce_entries<K: Key, C: Combiner, R: Reducer<C>>(
         rows: Rows::new(alloc),
         over: None,
     };
-    let mut entries = VecDeque::from_vec(entries);
-    let Some((first, one)) = entries.pop_front() else {
+    let mut far = VecDeque::from_vec(entries);
+    let mut near: VecDeque<(u64, &'a K, &'a C::Cell)> = VecDeque::with_capacity(
+        alloc,
+        SIDE_BY_SIDE,
+    )?;
+    let Some((_, first, one)) = next_entry(&mut near, &mut far)? else {
         return Ok(made);
     };
     let mut key = first;
     let mut cell = C::copy(alloc, one)?;
-    while let Some((next, other)) = entries.pop_front() {
-        if key.cmp(next).is_eq() {
+    while let Some((lead, next, other)) = next_entry(&mut near, &mut far)? {
+        if are_equal(key, lead, next) {
             C::merge(&mut cell, other)?;
         } else {
             made.put::<C, R>(alloc, key, cell)?;
@@ -112,8 +118,8 @@ pub(crate) fn reduce_partition<L: Parted, R: Reducer<L::Fold>>(
     ensures part { IfOk result (λ p. p.part ≡ part) }
     ensures reduced { IfOk result (λ p. IsReducedAt L.Key.cmp (λ k. joined_by L.Fold.merged (λ h. L.cell h.local k) mapped.now) (L.part_of parts) L.Fold.over R.answer part p) }
 {
-    let mut entries = read_hands(alloc, mapped, part, parts)?;
-    order(&mut entries)?;
+    let read = read_hands(alloc, mapped, part, parts)?;
+    let entries = order(alloc, read)?;
     let made = reduce_entries::<L::Key, L::Fold, R>(alloc, part, entries)?;
     Ok(made)
 }

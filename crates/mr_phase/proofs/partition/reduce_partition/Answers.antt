@@ -10,10 +10,10 @@ returns-clause-reduced g c =
     let key = g.L.Key.Ord.cmp in
     let fold = g.L.Fold.Combiner in
     let found = folded_found g.met.L.Key.Ord.total g.met.L.Key.Key.only_equal_tie g.met.L.Fold.Combiner.laws (λ h. g.L.Parted.cell h.local) (g.L.Parted.part_of c.args.parts) c.args.part c.args.mapped.now
-    c.in_ok-entries.entries.items c.order.new.entries.items c.in_ok-entries.ensures c.in_ok-order.ensures.permutation c.in_ok-order.ensures.sorted in (
-      subst (λ rows. IsStrictlySortedBy key (map (λ r. r.0) rows)) (sym c.in_ok-made.ensures.rows) (rows_ascend key fold.over g.R.Reducer.answer (fold_equal key fold.merged (seen_of c.order.new.entries.items)) found.0),
+    c.in_ok-read.read.items c.in_ok-entries.entries.items c.in_ok-read.ensures c.in_ok-entries.ensures.permutation c.in_ok-entries.ensures.sorted in (
+      subst (λ rows. IsStrictlySortedBy key (map (λ r. r.0) rows)) (sym c.in_ok-made.ensures.rows) (rows_ascend key fold.over g.R.Reducer.answer (fold_equal key fold.merged (seen_of c.in_ok-entries.entries.items)) found.0),
       record {
-        entries = fold_equal key fold.merged (seen_of c.order.new.entries.items);
+        entries = fold_equal key fold.merged (seen_of c.in_ok-entries.entries.items);
         sorted = found.0;
         found = found.1;
         rows_are = c.in_ok-made.ensures.rows;

@@ -8,7 +8,7 @@ use Rattle.mr_array.proofs.array.ArrayLocalParted.next.Goals as goal
 pub index-requires-in-Some : goal.index-requires-in-Some
 index-requires-in-Some g c =
     let keys = c.args.self.now.keys in
-    omega (arith, c.loop-cursor-test.true, ap length c.args.self.now.named, length-range_with_len 0 g.row.N, keys.ok.0)
+    omega (arith, c.loop-cursor-test.true, ap length c.args.self.now.named, length-range_with_len 0 g.S.Size.size, keys.ok.0)
 
 pub returns-in-Some-clause-stands : goal.returns-in-Some-clause-stands
 returns-in-Some-clause-stands g c =
@@ -25,7 +25,7 @@ returns-in-Some-clause-entry g c =
     let within : place < length local.cells.items = omega (arith, c.loop-cursor-test.true, local.places, local.cells.ok.0) in
     kept.left
     ∙ taken c.args.cursor.now.parts c.args.cursor.now.part local.cells.items (omega (arith, kept.some, kept.parts)) place c.in-Some.cell c.index.result.now within c.index.ensures c.in-Some.is kept.stride
-    ∙ (λ i. (sym (key_there local.keys.items g.row.N place c.index-in-Some.result.now local.named c.loop-cursor-test.true c.index-in-Some.ensures) i, c.in-Some.cell)
+    ∙ (λ i. (sym (key_there local.keys.items g.S.Size.size place c.index-in-Some.result.now local.named (omega (arith, c.loop-cursor-test.true, local.sized)) c.index-in-Some.ensures) i, c.in-Some.cell)
     ∷ filter (λ e. e.0 % sym kept.parts i == sym kept.part i) (numbered (place + sym kept.parts i) (drop (place + sym kept.parts i) local.cells.items)))
 
 pub loop-cursor-preserved : goal.loop-cursor-preserved

@@ -13,4 +13,4 @@ invariant-loop-cursor g l = record {
 }
 
 abbrev pub decreases-loop-cursor : goal.decreases-loop-cursor
-decreases-loop-cursor g l = g.row.N - l.cursor.place
+decreases-loop-cursor g l = g.S.Size.size - l.cursor.place
