@@ -6,7 +6,7 @@ use Rattle.mr_kernels.specs.Scan.{line_end_in}
 use Rattle.mr_text.specs.Sent.{Sent, SentSome}
 use Rattle.mr_text.proofs.Sending.{sent_next, some_next, some_more}
 use Rattle.mr_lines.proofs.Emitted.{emitted-append}
-use Rattle.mr_lines.proofs.NextLine.{next, next_later, next_inside, next_within, emits_line}
+use Rattle.mr_lines.proofs.NextLine.{next, next_later, next_inside, emits_line}
 
 module _ {S E : Type 0} (stands : S → List E → Type 0) (emits : ℕ → List E) (bs : List ℕ) (start : ℕ) where
   abbrev pub upto : ℕ → List E

@@ -1,11 +1,10 @@
 -- The fields of a line, by their edges, and what they emit.
-use Rattle.std.proofs.Common.{◌≡◌, ◌≢◌, ℕ, ℤ, zero, suc, pos, negsuc, ◌+◌, ◌-◌, ◌*◌, ◌/◌, ◌<◌, ◌≤◌, ◌&&◌, nat_le, cond, Bool, true, false, List, [], ◌∷◌, length, map, take, get_or, Option, Some, None, refl, sym, ◌∙◌, ap, ap₂, subst, arith}
-use Rattle.std.specs.Prelude.{slice_range, neg_ℤ, if◌then◌else◌, option_and_then, option_map}
+use Rattle.std.proofs.Common.{◌≡◌, ◌≢◌, ℕ, ℤ, ◌+◌, ◌-◌, ◌*◌, ◌/◌, ◌<◌, ◌≤◌, List, [], ◌∷◌, length, map, take, get_or, Option, Some, None, refl, sym, ◌∙◌, ap, ap₂, arith}
+use Rattle.std.specs.Prelude.{slice_range, option_and_then, option_map}
 use Rattle.std.specs.Option.{option_map_or}
-use Rattle.std.proofs.lemmas.Bool.{le-leb, lt-leb}
 use Rattle.std.proofs.lemmas.List.{length-map}
-use Rattle.mr_defs.specs.Emission.{Emission, Pair, Malformed}
-use Rattle.mr_items.specs.FoldLines.{pair_in, fields_emit}
+use Rattle.mr_defs.specs.Emission.{Pair, Malformed}
+use Rattle.mr_items.specs.FoldLines.{fields_emit}
 use Rattle.mr_items.specs.Lines.{is_field_byte}
 use Rattle.mr_items.specs.Number.{number_of}
 use Rattle.mr_items.specs.Runs.{run_at, run_places, runs}

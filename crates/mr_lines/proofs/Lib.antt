@@ -3,3 +3,4 @@ mod NextLine
 mod Driven
 mod Whole
 mod Fields
+mod Searching

@@ -1,8 +1,8 @@
 -- The line that begins at a boundary.
-use Rattle.std.proofs.Common.{◌≡◌, inl, inr, ℕ, ◌+◌, ◌-◌, ◌<◌, ◌≤◌, ◌==◌, ◌||◌, min, Bool, true, false, not, List, [], ◌∷◌, ◌++◌, length, take, drop, get_or, refl, sym, ◌∙◌, ap, subst, arith, eq-eqb, append-nil}
+use Rattle.std.proofs.Common.{◌≡◌, inl, inr, ℕ, ◌+◌, ◌-◌, ◌<◌, ◌≤◌, ◌==◌, ◌||◌, min, Bool, true, false, not, List, [], ◌∷◌, ◌++◌, length, take, drop, get_or, ◌∙◌, ap, arith, eq-eqb, append-nil}
 use Rattle.std.specs.Prelude.{filter, flat_map, slice_range}
 use Rattle.std.specs.List.{prefix_len, range_with_len}
-use Rattle.std.proofs.lemmas.Bool.{cases_lt, ne_eqb, or_left, or_right, both_ways, not-true, not-false}
+use Rattle.std.proofs.lemmas.Bool.{cases_lt, ne_eqb, or_left, or_right, not-true, not-false}
 use Rattle.mr_defs.specs.Tasks.{items_in, task_emissions}
 use Rattle.mr_defs.proofs.Joins.{items_in-range}
 use Rattle.mr_defs.proofs.Places.{IsNowhere, places-none, places-next}

@@ -27,35 +27,38 @@ pub(crate) trait LineJob {
     /// What the line that begins at a place emits.
     ghost emits: { Self → ℕ → List (Emission Self.Key ℤ) };
 
-    /// The state serves the lines from this place on.
-    ghost ready: { Self → Self.State → ℕ → Type 0 };
+    /// The state serves the lines of a piece with this end, from this place on.
+    ghost ready: { Self → Self.State → ℕ → ℕ → Type 0 };
 
-    /// The state for the lines from a place on.
-    fn state(&self, alloc: Global, from: usize) -> Result<Self::State, Memory>
-        requires { from ≤ length (text self.now) }
-        ensures { IfOk result (λ s. ready self.now s from) };
+    /// The state for the lines of a piece.
+    fn state(&self, alloc: Global, from: usize, stop: usize) -> Result<Self::State, Memory>
+        requires order { from ≤ stop }
+        requires inside { stop ≤ length (text self.now) }
+        ensures { IfOk result (λ s. ready self.now s stop from) };
 
-    /// Emits what the line from one place up to another emits, by way of the block.
+    /// Emits what the line from one place up to another emits, in a piece with this end, by way of the block.
     fn line<L: Local<Key = Self::Key, Value = i64>>(
         &self,
         alloc: Global,
         from: usize,
         to: usize,
+        stop: usize,
         state: &mut Self::State,
         block: &mut Vec<(Self::Key, i64)>,
         out: &mut L,
     ) -> Result<(), Memory>
         requires order { from ≤ to }
         requires inside { to ≤ length (text self.now) }
+        requires within { (to ≤ stop) × (stop ≤ length (text self.now)) }
         requires begins { begins_line (text self.now) from ≡ true }
         requires ends { is_line_end (text self.now) to ≡ true }
         requires line { line_at (text self.now) from ≡ slice_range (text self.now) from to }
-        requires ready { ready self.now state.old from }
+        requires ready { ready self.now state.old stop from }
         requires allowed { All (λ p. Self.Key.allowed p.0 × (p.1 ≢ negsuc 9223372036854775807)) block.old.items }
         ensures ok { OnOk result (Sent L.stands out.old out.new (block_emissions block.old.items ++ emits self.now from) (block_emissions block.new.items)) }
         ensures err { OnErr result (SentSome L.stands out.old out.new (block_emissions block.old.items ++ emits self.now from)) }
         ensures allowed { OnOk result (All (λ p. Self.Key.allowed p.0 × (p.1 ≢ negsuc 9223372036854775807)) block.new.items) }
-        ensures ready { OnOk result (ready self.now state.new (min (to + 1) (length (text self.now)))) }
+        ensures ready { OnOk result (ready self.now state.new stop (min (to + 1) (length (text self.now)))) }
         ensures origin { L.same_origin out.old out.new };
 }
 
@@ -73,12 +76,12 @@ fn map_lines<K: Key, J: LineJob<Key = K>, L: Local<Key = K, Value = i64>>(
     ensures err { OnErr result ((es : List (Emission K ℤ)) → L.stands out.old es → (n : ℕ) × L.stands out.new (es ++ take n (task_emissions (J.emits job.now) (line_places text.now) piece))) }
     ensures origin { L.same_origin out.old out.new }
 {
-    let mut state = job.state(alloc, piece.start)?;
+    let mut state = job.state(alloc, piece.start, piece.end)?;
     let mut block = Vec::with_capacity(alloc, 2 * BLOCK)?;
     let mut at = piece.start;
     while at < piece.end {
         let end = line_end(text, at);
-        job.line(alloc, at, end, &mut state, &mut block, out)?;
+        job.line(alloc, at, end, piece.end, &mut state, &mut block, out)?;
         if block.len() >= BLOCK {
             out.emit_block(&mut block)?;
         }

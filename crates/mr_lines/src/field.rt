@@ -1,11 +1,11 @@
 ghost use Rattle.std.specs.Prelude.{◌≡◌, ◌≤◌, List, ℕ, Option, Some, length, slice_range, IfOk, IfSome};
 ghost use Rattle.mr_items.specs.FoldLines.{number_key};
 
-use mr_base::{ByteKey, Key, Memory, NumKey, SliceKey, TextKey, read_number};
+use mr_base::{Key, Memory, NumKey, SliceKey, TextKey, read_number};
 use std::alloc::Global;
 
 /// Keys that a field is read as, where it is one: a byte key as every field, a number key as a number that is at least 0.
-pub trait FieldKey<'a>: Key {
+pub(crate) trait FieldKey<'a>: Key {
     ghost of_field: { List ℕ → Option Self };
 
     /// The key that the bytes of a text between two places are, or None.
@@ -14,19 +14,6 @@ pub trait FieldKey<'a>: Key {
         requires inside { to ≤ length text.now }
         ensures same { IfOk result (λ k. k ≡ of_field (slice_range text.now from to)) }
         ensures allowed { IfOk result (λ k. IfSome k (λ key. Self.allowed key)) };
-}
-
-impl<'a> FieldKey<'a> for ByteKey {
-    ghost of_field = { λ t. Some t };
-
-    fn read(
-        alloc: Global,
-        text: &'a [u8],
-        from: usize,
-        to: usize,
-    ) -> Result<Option<ByteKey>, Memory> {
-        Ok(Some(ByteKey::part_of(alloc, text, from, to, false)?))
-    }
 }
 
 impl<'a> FieldKey<'a> for SliceKey<'a> {

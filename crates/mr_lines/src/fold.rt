@@ -3,7 +3,7 @@ ghost use Rattle.std.specs.List.{flat_map, range_with_len};
 ghost use Rattle.std.specs.Option.{option_map_or};
 ghost use Rattle.mr_defs.specs.Emission.{Pair, Malformed};
 ghost use Rattle.mr_defs.specs.Tasks as tasks;
-ghost use Rattle.mr_items.specs.FoldLines.{fields_emit, fold_lines_emits};
+ghost use Rattle.mr_items.specs.FoldLines.{bytes_key, fields_emit, fold_lines_emissions, fold_lines_emits, number_key};
 ghost use Rattle.mr_items.specs.Lines as items;
 ghost use Rattle.mr_items.specs.Runs.{runs};
 ghost use Rattle.mr_kernels.specs.Edges.{run_edges};
@@ -14,42 +14,12 @@ ghost use Rattle.mr_text.specs.Sent.{Sent, SentSome};
 
 use crate::driver::{LineJob, Lines, map_task};
 use crate::field::FieldKey;
-use mr_base::{Key, Memory, NumKey, read_number};
+use mr_base::{Key, Memory, NumKey, SliceKey, read_number};
 use mr_container::{Local, Mapper};
 use mr_kernels::field_edges;
 use mr_split::Pieces;
 use mr_text::EDGES;
 use std::alloc::Global;
-use std::marker::PhantomData;
-
-/// Folds the values of keyed lines: a line of two fields, of which the first is a key and the second a number, is emitted as that pair. A line
-/// without a field is passed over, and every other one is malformed at its first byte.
-#[derive(Drop)]
-pub struct FoldLines<'a, K> {
-    lines: Lines<'a>,
-    key: PhantomData<K>,
-}
-
-/// Lines with byte keys.
-pub type FoldBytes<'a, K> = FoldLines<'a, K>;
-
-/// Lines with number keys.
-pub type FoldNumbers<'a> = FoldLines<'a, NumKey>;
-
-impl<'a, K: FieldKey<'a>> FoldLines<'a, K> {
-    /// The job over this text, cut into these pieces. Takes no memory.
-    pub fn new(input: &'a [u8], pieces: &'a Pieces) -> FoldLines<'a, K>
-        requires { ArePieces Boundary.Line input.now pieces.now }
-        ensures count { ⟦<FoldLines<'a, K> as Mapper>⟧.task_count result ≡ length pieces.now }
-        ensures tasks { (t : ℕ) → ⟦<FoldLines<'a, K> as Mapper>⟧.task_emissions result t ≡ tasks.task_emissions (fold_lines_emits K.of_field input.now) (items.line_places input.now) (slice_index_or pieces.now t (0, 0)) }
-        ensures whole { flat_map (⟦<FoldLines<'a, K> as Mapper>⟧.task_emissions result) (range_with_len 0 (⟦<FoldLines<'a, K> as Mapper>⟧.task_count result)) ≡ flat_map (fold_lines_emits K.of_field input.now) (items.line_places input.now) }
-    {
-        FoldLines {
-            lines: Lines::new(input, pieces),
-            key: PhantomData,
-        }
-    }
-}
 
 /// Where a line ends without the byte 13 before its end.
 fn without_return(text: &[u8], from: usize, to: usize) -> usize
@@ -149,56 +119,172 @@ fn put<K: Key, L: Local<Key = K, Value = i64>>(
     Ok(())
 }
 
-impl<'a, K: FieldKey<'a>> LineJob for FoldLines<'a, K> {
-    type Key = K;
+/// Emits the pair of a line, or notes that the line is malformed; a line without a field emits nothing.
+fn emit_line<'a, K: FieldKey<'a>, L: Local<Key = K, Value = i64>>(
+    alloc: Global,
+    text: &'a [u8],
+    from: usize,
+    to: usize,
+    edges: &mut Vec<u32>,
+    block: &mut Vec<(K, i64)>,
+    out: &mut L,
+) -> Result<(), Memory>
+    requires order { from ≤ to }
+    requires inside { to ≤ length text.now }
+    requires line { items.line_at text.now from ≡ slice_range text.now from to }
+    requires allowed { All (λ p. K.allowed p.0 × (p.1 ≢ negsuc 9223372036854775807)) block.old.items }
+    ensures ok { OnOk result (Sent L.stands out.old out.new (block_emissions block.old.items ++ fold_lines_emits K.of_field text.now from) (block_emissions block.new.items)) }
+    ensures err { OnErr result (SentSome L.stands out.old out.new (block_emissions block.old.items ++ fold_lines_emits K.of_field text.now from)) }
+    ensures allowed { OnOk result (All (λ p. K.allowed p.0 × (p.1 ≢ negsuc 9223372036854775807)) block.new.items) }
+    ensures origin { L.same_origin out.old out.new }
+{
+    let end = without_return(text, from, to);
+    let count = edges_of_fields(alloc, text, from, end, edges)?;
+    if count == 0 {
+        return Ok(());
+    }
+    let pair = pair_of::<K>(alloc, text, from, end, edges, count)?;
+    put(pair, from as u64, block, out)
+}
+
+/// Folds the values of lines with byte keys: a line of two fields, of which the second is a number, is emitted as the pair of the two. A line without
+/// a field is passed over, and every other one is malformed at its first byte.
+#[derive(Drop)]
+pub struct FoldBytes<'a> {
+    lines: Lines<'a>,
+}
+
+impl<'a> FoldBytes<'a> {
+    /// The job over this text, cut into these pieces. Takes no memory.
+    pub fn new(input: &'a [u8], pieces: &'a Pieces) -> FoldBytes<'a>
+        requires { ArePieces Boundary.Line input.now pieces.now }
+        ensures count { ⟦<FoldBytes<'a> as Mapper>⟧.task_count result ≡ length pieces.now }
+        ensures tasks { (t : ℕ) → ⟦<FoldBytes<'a> as Mapper>⟧.task_emissions result t ≡ tasks.task_emissions (fold_lines_emits bytes_key input.now) (items.line_places input.now) (slice_index_or pieces.now t (0, 0)) }
+        ensures whole { flat_map (⟦<FoldBytes<'a> as Mapper>⟧.task_emissions result) (range_with_len 0 (⟦<FoldBytes<'a> as Mapper>⟧.task_count result)) ≡ fold_lines_emissions bytes_key input.now }
+    {
+        FoldBytes {
+            lines: Lines::new(input, pieces),
+        }
+    }
+}
+
+impl<'a> LineJob for FoldBytes<'a> {
+    type Key = SliceKey<'a>;
 
     // The edges of the fields of a line.
     type State = Vec<u32>;
 
     ghost text = { λ j. j.lines.input.now };
 
-    ghost emits = { λ j. fold_lines_emits K.of_field j.lines.input.now };
+    ghost emits = { λ j. fold_lines_emits bytes_key j.lines.input.now };
 
-    ghost ready = { λ _ _ _. Unit {0} };
+    ghost ready = { λ _ _ _ _. Unit {0} };
 
-    fn state(&self, alloc: Global, _from: usize) -> Result<Vec<u32>, Memory> {
+    fn state(&self, alloc: Global, _from: usize, _stop: usize) -> Result<Vec<u32>, Memory> {
         Ok(vec![in alloc; 0u32; EDGES]?)
     }
 
-    fn line<L: Local<Key = K, Value = i64>>(
+    fn line<L: Local<Key = SliceKey<'a>, Value = i64>>(
         &self,
         alloc: Global,
         from: usize,
         to: usize,
+        _stop: usize,
         edges: &mut Vec<u32>,
-        block: &mut Vec<(K, i64)>,
+        block: &mut Vec<(SliceKey<'a>, i64)>,
         out: &mut L,
     ) -> Result<(), Memory> {
-        let text = self.lines.input;
-        let end = without_return(text, from, to);
-        let count = edges_of_fields(alloc, text, from, end, edges)?;
-        if count == 0 {
-            return Ok(());
-        }
-        let pair = pair_of::<K>(alloc, text, from, end, edges, count)?;
-        put(pair, from as u64, block, out)
+        emit_line(alloc, self.lines.input, from, to, edges, block, out)
     }
 }
 
-impl<'a, K: FieldKey<'a>> Mapper for FoldLines<'a, K> {
-    type Key = K;
+impl<'a> Mapper for FoldBytes<'a> {
+    type Key = SliceKey<'a>;
 
     type Value = i64;
 
     ghost task_count = { λ m. length m.lines.pieces.now };
 
-    ghost task_emissions = { λ m t. tasks.task_emissions (fold_lines_emits K.of_field m.lines.input.now) (items.line_places m.lines.input.now) (slice_index_or m.lines.pieces.now t (0, 0)) };
+    ghost task_emissions = { λ m t. tasks.task_emissions (fold_lines_emits bytes_key m.lines.input.now) (items.line_places m.lines.input.now) (slice_index_or m.lines.pieces.now t (0, 0)) };
 
     fn tasks(&self) -> u32 {
         self.lines.pieces.len()
     }
 
-    fn map<L: Local<Key = K, Value = i64>>(
+    fn map<L: Local<Key = SliceKey<'a>, Value = i64>>(
+        &self,
+        alloc: Global,
+        task: u32,
+        out: &mut L,
+    ) -> Result<(), Memory> {
+        map_task(alloc, self, &self.lines, task, out)
+    }
+}
+
+/// Folds the values of lines with number keys: the same, where the first field is a number too, and at least 0.
+#[derive(Drop)]
+pub struct FoldNumbers<'a> {
+    lines: Lines<'a>,
+}
+
+impl<'a> FoldNumbers<'a> {
+    /// The job over this text, cut into these pieces. Takes no memory.
+    pub fn new(input: &'a [u8], pieces: &'a Pieces) -> FoldNumbers<'a>
+        requires { ArePieces Boundary.Line input.now pieces.now }
+        ensures count { ⟦<FoldNumbers<'a> as Mapper>⟧.task_count result ≡ length pieces.now }
+        ensures tasks { (t : ℕ) → ⟦<FoldNumbers<'a> as Mapper>⟧.task_emissions result t ≡ tasks.task_emissions (fold_lines_emits number_key input.now) (items.line_places input.now) (slice_index_or pieces.now t (0, 0)) }
+        ensures whole { flat_map (⟦<FoldNumbers<'a> as Mapper>⟧.task_emissions result) (range_with_len 0 (⟦<FoldNumbers<'a> as Mapper>⟧.task_count result)) ≡ fold_lines_emissions number_key input.now }
+    {
+        FoldNumbers {
+            lines: Lines::new(input, pieces),
+        }
+    }
+}
+
+impl<'a> LineJob for FoldNumbers<'a> {
+    type Key = NumKey;
+
+    // The edges of the fields of a line.
+    type State = Vec<u32>;
+
+    ghost text = { λ j. j.lines.input.now };
+
+    ghost emits = { λ j. fold_lines_emits number_key j.lines.input.now };
+
+    ghost ready = { λ _ _ _ _. Unit {0} };
+
+    fn state(&self, alloc: Global, _from: usize, _stop: usize) -> Result<Vec<u32>, Memory> {
+        Ok(vec![in alloc; 0u32; EDGES]?)
+    }
+
+    fn line<L: Local<Key = NumKey, Value = i64>>(
+        &self,
+        alloc: Global,
+        from: usize,
+        to: usize,
+        _stop: usize,
+        edges: &mut Vec<u32>,
+        block: &mut Vec<(NumKey, i64)>,
+        out: &mut L,
+    ) -> Result<(), Memory> {
+        emit_line(alloc, self.lines.input, from, to, edges, block, out)
+    }
+}
+
+impl<'a> Mapper for FoldNumbers<'a> {
+    type Key = NumKey;
+
+    type Value = i64;
+
+    ghost task_count = { λ m. length m.lines.pieces.now };
+
+    ghost task_emissions = { λ m t. tasks.task_emissions (fold_lines_emits number_key m.lines.input.now) (items.line_places m.lines.input.now) (slice_index_or m.lines.pieces.now t (0, 0)) };
+
+    fn tasks(&self) -> u32 {
+        self.lines.pieces.len()
+    }
+
+    fn map<L: Local<Key = NumKey, Value = i64>>(
         &self,
         alloc: Global,
         task: u32,

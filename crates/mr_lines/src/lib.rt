@@ -11,7 +11,12 @@ mod driver;
 mod field;
 mod fold;
 mod index;
+mod search;
+mod string_match;
 
-pub use field::FieldKey;
-pub use fold::{FoldBytes, FoldLines, FoldNumbers};
+pub use fold::{FoldBytes, FoldNumbers};
 pub use index::InvertedIndex;
+pub use string_match::StringMatch;
+
+#[cfg(test)]
+mod tests;

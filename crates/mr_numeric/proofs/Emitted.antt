@@ -60,6 +60,11 @@ module _ {E : Type 0} (f : ℕ → List E) (a : ℕ) where
     pub front_before : (m b : ℕ) → a ≤ m → m < b → P (es ++ emitted m) → (n : ℕ) × P (es ++ take n (emitted b))
     front_before m b from below h = front m b 0 from below (subst P (sym (append-nil (es ++ emitted m))) h)
 
+-- what the parts of each item give
+pub flat_map-flat_map : {X Y E : Type 0} (f : Y → List E) (g : X → List Y) (xs : List X) → flat_map f (flat_map g xs) ≡ flat_map (λ x. flat_map f (g x)) xs
+flat_map-flat_map f g [] = refl
+flat_map-flat_map f g (x ∷ xs) = flat_map-append f (g x) (flat_map g xs) ∙ ap (λ l. flat_map f (g x) ++ l) (flat_map-flat_map f g xs)
+
 filter_all : (xs : List ℕ) → filter (λ k. true) xs ≡ xs
 filter_all [] = refl
 filter_all (x ∷ xs) = ap (λ l. x ∷ l) (filter_all xs)

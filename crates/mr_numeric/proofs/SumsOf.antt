@@ -13,7 +13,7 @@ use Rattle.mr_numeric.specs.Pairs.{sum_of}
 abs_add : (a b : ℤ) → nat_abs (a +ℤ b) ≤ nat_abs a + nat_abs b
 abs_add a b = grind (arith, ints)
 
-sum_small : (s : ℤ) (vs : List ℤ) → nat_abs (fold ◌+ℤ◌ s vs) ≤ nat_abs s + magnitude vs
+pub sum_small : (s : ℤ) (vs : List ℤ) → nat_abs (fold ◌+ℤ◌ s vs) ≤ nat_abs s + magnitude vs
 sum_small s [] = omega arith
 sum_small s (v ∷ vs) = omega (arith, sum_small (s +ℤ v) vs, abs_add s v, sum_by-cons nat_abs v vs)
 

@@ -1,2 +1,4 @@
 pub mod Pairs
 pub mod Sums
+pub mod Grids
+pub mod Couples

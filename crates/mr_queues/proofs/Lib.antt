@@ -1,3 +1,4 @@
 mod Turned
 mod OneKind
+mod Rooming
 mod SameKind

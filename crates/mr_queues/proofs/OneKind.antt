@@ -1,5 +1,5 @@
 -- Passes of one kind among those of any.
-use Rattle.std.proofs.Common.{◌≡◌, ℕ, zero, suc, ◌+◌, ◌<◌, Bool, true, false, List, [], ◌∷◌, ◌++◌, length, map, flat_map, Option, Some, None, refl, sym, ap, subst, ◌∙◌, arith}
+use Rattle.std.proofs.Common.{◌≡◌, ℕ, suc, ◌<◌, Bool, List, [], ◌∷◌, ◌++◌, length, map, flat_map, Option, Some, refl, sym, ap, subst, ◌∙◌, arith}
 use Rattle.std.specs.Prelude.{filter_map, slice_index_or}
 use Rattle.std.specs.List.{cons_option, range_with_len}
 use Rattle.std.specs.List.Sorted.{IsPermutation}
@@ -54,9 +54,22 @@ module _ {P A : Type 0} (f : P → A) where
           ap ended_any (at ps i d e short) ∙ ends (slice_index_or ps i e) ∙ is.1,
         )
 
+    pub unused_own : AreUnused given_any ended_any (map f ps) → AreUnused given ended ps
+    unused_own unused = λ i e h.
+        let is = unused i (f e) (subst (λ n. i < n) (sym (length-map ps f)) h) in (
+          sym (lists (slice_index_or ps i e)) ∙ ap given_any (sym (at ps i (f e) e h)) ∙ is.0,
+          sym (ends (slice_index_or ps i e)) ∙ ap ended_any (sym (at ps i (f e) e h)) ∙ is.1,
+        )
+
     pub ended_own : HaveEnded ended_any (map f ps) → HaveEnded ended ps
     ended_own have = λ i e h.
         sym (ends (slice_index_or ps i e)) ∙ ap ended_any (sym (at ps i (f e) e h)) ∙ have i (f e) (subst (λ n. i < n) (sym (length-map ps f)) h)
+
+  pub ended_any_all : (ended : P → Bool) (ended_any : A → Bool) → ((p : P) → ended_any (f p) ≡ ended p) → (ps : List P) → HaveEnded ended ps → HaveEnded ended_any (map f ps)
+  ended_any_all ended ended_any ends ps have = λ i d h.
+      let short = length_as ps i h in
+      let e = some ps i short in
+      ap ended_any (at ps i d e short) ∙ ends (slice_index_or ps i e) ∙ have i e short
 
   module _ (given : P → List ℕ) (given_any : A → List ℕ) (lists : (p : P) → given_any (f p) ≡ given p) where
     same_lists : (ps : List P) → flat_map given ps ≡ flat_map given_any (map f ps)
@@ -65,6 +78,9 @@ module _ {P A : Type 0} (f : P → A) where
 
     pub given_any_all : (n : ℕ) (ps : List P) → AreAllGiven n given ps → AreAllGiven n given_any (map f ps)
     given_any_all n ps all = subst (IsPermutation (range_with_len 0 n)) (same_lists ps) all
+
+    pub given_own_all : (n : ℕ) (ps : List P) → AreAllGiven n given_any (map f ps) → AreAllGiven n given ps
+    given_own_all n ps all = subst (IsPermutation (range_with_len 0 n)) (sym (same_lists ps)) all
 
   module _ (within : A → Option P) (is_any : A → Type 0) (own : (p : P) → within (f p) ≡ Some p) (kind : (a : A) → is_any a → (p : P) × (a ≡ f p)) where
     -- where all are of the kind, they are what is picked of them

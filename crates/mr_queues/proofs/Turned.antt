@@ -1,9 +1,8 @@
 -- Passes that are taken from the end of a turned list come in their order.
-use Rattle.std.proofs.Common.{◌≡◌, ℕ, ◌+◌, List, [], ◌∷◌, ◌++◌, length, map, reverse, Option, refl, sym, ap, ◌∙◌, append_assoc, length-append}
+use Rattle.std.proofs.Common.{◌≡◌, ◌+◌, List, [], ◌∷◌, ◌++◌, length, map, reverse, Option, sym, ap, ◌∙◌, append_assoc, length-append}
 use Rattle.std.specs.Prelude.{filter_map}
 use Rattle.std.specs.List.{cons_option}
-use Rattle.std.proofs.lemmas.List.{append-nil, reverse-append, reverse-reverse}
-use Rattle.std.proofs.lemmas.List.Elements.{filter_map-append}
+use Rattle.std.proofs.lemmas.List.{reverse-append, reverse-reverse}
 
 -- the last of a list is the first of the turned one
 pub turned_last : {X : Type 0} (before after : List X) (x : X) → before ≡ after ++ x ∷ [] → reverse before ≡ x ∷ reverse after

@@ -1,3 +1,4 @@
 pub mod Passes
+pub mod Rooms
 pub mod Queues
 pub mod QueuesLaws

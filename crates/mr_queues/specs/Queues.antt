@@ -1,43 +1,33 @@
 -- What is seen of queues, whichever kind they have.
-use Rattle.std.specs.Prelude.{ℕ, length}
+use Rattle.std.specs.Prelude.{◌≡◌, ℕ, length}
 use Rattle.mr_base.specs.Tasks.{total_of}
 use Rattle.mr_phase.specs.Blocks as block
 use Rattle.mr_claims.specs.Passes as claim
 use Rattle.mr_deques.specs.Passes as deque
-use Rattle.mr_queues.specs.declared.pass.AnyPass.{AnyPass}
-use Rattle.mr_queues.specs.declared.pass.AnyPass.TheVariants as pass
-use Rattle.mr_queues.specs.declared.any.Kept.{Kept}
-use Rattle.mr_queues.specs.declared.any.Kept.TheVariants.{Blocks, Claims, Deques}
+use Rattle.mr_queues.specs.Rooms.{IsRoom}
+use Rattle.mr_queues.specs.declared.any.AnyPass.{AnyPass}
+use Rattle.mr_queues.specs.declared.any.AnyPass.TheVariants as pass
+use Rattle.mr_queues.specs.declared.any.AnyQueues.{AnyQueues}
+use Rattle.mr_queues.specs.declared.any.AnyQueues.TheVariants.{Blocks, Claims, Deques}
 
-abbrev pub total : Kept → ℕ
-total (Blocks q room) = q.tasks
-total (Claims q room) = total_of q.ranges
-total (Deques q room) = total_of q.ranges
+abbrev pub total : AnyQueues → ℕ
+total (Blocks q) = q.tasks
+total (Claims q) = total_of q.ranges
+total (Deques q) = total_of q.ranges
 
-abbrev pub count : Kept → ℕ
-count (Blocks q room) = q.queues
-count (Claims q room) = length q.ranges
-count (Deques q room) = length q.ranges
+abbrev pub count : AnyQueues → ℕ
+count (Blocks q) = q.queues
+count (Claims q) = length q.ranges
+count (Deques q) = length q.ranges
 
--- the pass is of the same kind, and of these queues
-abbrev pub IsAnyOf : Kept → AnyPass → Type 0
-IsAnyOf (Blocks q room) (pass.Blocks p) = block.IsBlockOf q p
-IsAnyOf (Blocks q room) (pass.Claims p) = ⊥
-IsAnyOf (Blocks q room) (pass.Deques p) = ⊥
-IsAnyOf (Claims q room) (pass.Blocks p) = ⊥
-IsAnyOf (Claims q room) (pass.Claims p) = claim.IsPassOf q p
-IsAnyOf (Claims q room) (pass.Deques p) = ⊥
-IsAnyOf (Deques q room) (pass.Blocks p) = ⊥
-IsAnyOf (Deques q room) (pass.Claims p) = ⊥
-IsAnyOf (Deques q room) (pass.Deques p) = deque.IsPassOf q p
-
--- how many passes lie in the room for them, and how many more it takes
-abbrev pub held : Kept → ℕ
-held (Blocks q room) = length room.items
-held (Claims q room) = length room.items
-held (Deques q room) = length room.items
-
-abbrev pub spare : Kept → ℕ
-spare (Blocks q room) = room.spare
-spare (Claims q room) = room.spare
-spare (Deques q room) = room.spare
+-- the pass is of the same kind, and of these queues; the first has room for all
+abbrev pub IsAnyOf : AnyQueues → AnyPass → Type 0
+IsAnyOf (Blocks q) (pass.Blocks p room) = block.IsBlockOf q p × (p.number ≡ 0 → IsRoom q.queues room)
+IsAnyOf (Blocks q) (pass.Claims p room) = ⊥
+IsAnyOf (Blocks q) (pass.Deques p room) = ⊥
+IsAnyOf (Claims q) (pass.Blocks p room) = ⊥
+IsAnyOf (Claims q) (pass.Claims p room) = claim.IsPassOf q p × (claim.number_of p ≡ 0 → IsRoom (length q.ranges) room)
+IsAnyOf (Claims q) (pass.Deques p room) = ⊥
+IsAnyOf (Deques q) (pass.Blocks p room) = ⊥
+IsAnyOf (Deques q) (pass.Claims p room) = ⊥
+IsAnyOf (Deques q) (pass.Deques p room) = deque.IsPassOf q p × (deque.number_of p ≡ 0 → IsRoom (length q.ranges) room)

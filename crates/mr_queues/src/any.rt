@@ -1,6 +1,3 @@
-ghost use Rattle.std.specs.Prelude.{◌≡◌, ◌≤◌};
-ghost use Rattle.mr_queues.specs.Queues.{count, held, spare};
-
 use mr_base::Few;
 use mr_claims::{ClaimPass, Claims};
 use mr_deques::{DequePass, Deques};
@@ -8,16 +5,16 @@ use mr_phase::{BlockPass, Blocks};
 
 /// Queues of one kind.
 #[derive(Drop)]
-pub struct AnyQueues {
-    pub(crate) kept: Kept,
-    ghost empty: { held kept ≡ 0 },
-    ghost wide: { count kept ≤ spare kept },
+pub enum AnyQueues {
+    Blocks(Blocks),
+    Claims(Claims),
+    Deques(Deques),
 }
 
-// The queues, and room for their passes.
+/// A pass of queues of one kind, and room for passes: where it is the first one, for all of these queues, so that they are handed back without memory.
 #[derive(Drop)]
-pub(crate) enum Kept {
-    Blocks(Blocks, Few<BlockPass>),
-    Claims(Claims, Few<ClaimPass>),
-    Deques(Deques, Few<DequePass>),
+pub enum AnyPass {
+    Blocks(BlockPass, Few<BlockPass>),
+    Claims(ClaimPass, Few<ClaimPass>),
+    Deques(DequePass, Few<DequePass>),
 }

@@ -1,12 +1,11 @@
-ghost use Rattle.std.specs.Prelude.{◌≡◌, ◌<◌, ◌++◌, ◌∷◌, [], true, length, IfOk, IfSome, IfNone, IsNone};
-ghost use Rattle.std.specs.List.Sorted.{IsPermutation};
+ghost use Rattle.std.specs.Prelude.{◌≡◌, length, IfOk};
 ghost use Rattle.mr_base.specs.Tasks.{AreAll, AreAllGiven, AreUnused, HaveEnded, total_of};
 ghost use Rattle.mr_queues.specs.Passes.{ended, given, number};
 ghost use Rattle.mr_queues.specs.Queues.{IsAnyOf, count, total};
 ghost use Rattle.mr_queues.specs.QueuesLaws.{apart};
 
-use crate::any::{AnyQueues, Kept};
-use crate::pass::{AnyPass, all_any, all_own};
+use crate::any::{AnyPass, AnyQueues};
+use crate::pass::{all_any, all_own};
 use mr_base::{Few, Memory, Ranges, TaskQueues};
 use mr_capacity::QueueKind;
 use mr_claims::Claims;
@@ -16,50 +15,35 @@ use std::alloc::Global;
 
 // Blocks, one for each of these ranges.
 fn blocks(alloc: Global, ranges: &Ranges) -> Result<(AnyQueues, Few<AnyPass>), Memory>
-    ensures counts { IfOk result (λ r. (total r.0.kept ≡ total_of ranges.now) × (count r.0.kept ≡ length ranges.now)) }
-    ensures passes { IfOk result (λ r. AreAll (count r.0.kept) (IsAnyOf r.0.kept) number r.1.items) }
+    ensures counts { IfOk result (λ r. (total r.0 ≡ total_of ranges.now) × (count r.0 ≡ length ranges.now)) }
+    ensures passes { IfOk result (λ r. AreAll (count r.0) (IsAnyOf r.0) number r.1.items) }
     ensures unused { IfOk result (λ r. AreUnused given ended r.1.items) }
 {
     let (queues, passes) = Blocks::open(alloc, ranges)?;
-    let (passes, room) = all_any(alloc, ranges.queues(), passes)?;
-    Ok((
-        AnyQueues {
-            kept: Kept::Blocks(queues, room),
-        },
-        passes,
-    ))
+    let passes = all_any(alloc, ranges.queues(), passes)?;
+    Ok((AnyQueues::Blocks(queues), passes))
 }
 
 // Claimed ranges.
 fn claims(alloc: Global, ranges: &Ranges) -> Result<(AnyQueues, Few<AnyPass>), Memory>
-    ensures counts { IfOk result (λ r. (total r.0.kept ≡ total_of ranges.now) × (count r.0.kept ≡ length ranges.now)) }
-    ensures passes { IfOk result (λ r. AreAll (count r.0.kept) (IsAnyOf r.0.kept) number r.1.items) }
+    ensures counts { IfOk result (λ r. (total r.0 ≡ total_of ranges.now) × (count r.0 ≡ length ranges.now)) }
+    ensures passes { IfOk result (λ r. AreAll (count r.0) (IsAnyOf r.0) number r.1.items) }
     ensures unused { IfOk result (λ r. AreUnused given ended r.1.items) }
 {
     let (queues, passes) = Claims::open(alloc, ranges)?;
-    let (passes, room) = all_any(alloc, ranges.queues(), passes)?;
-    Ok((
-        AnyQueues {
-            kept: Kept::Claims(queues, room),
-        },
-        passes,
-    ))
+    let passes = all_any(alloc, ranges.queues(), passes)?;
+    Ok((AnyQueues::Claims(queues), passes))
 }
 
 // Stealing deques, filled with these ranges.
 fn deques(alloc: Global, ranges: &Ranges) -> Result<(AnyQueues, Few<AnyPass>), Memory>
-    ensures counts { IfOk result (λ r. (total r.0.kept ≡ total_of ranges.now) × (count r.0.kept ≡ length ranges.now)) }
-    ensures passes { IfOk result (λ r. AreAll (count r.0.kept) (IsAnyOf r.0.kept) number r.1.items) }
+    ensures counts { IfOk result (λ r. (total r.0 ≡ total_of ranges.now) × (count r.0 ≡ length ranges.now)) }
+    ensures passes { IfOk result (λ r. AreAll (count r.0) (IsAnyOf r.0) number r.1.items) }
     ensures unused { IfOk result (λ r. AreUnused given ended r.1.items) }
 {
     let (queues, passes) = Deques::open(alloc, ranges)?;
-    let (passes, room) = all_any(alloc, ranges.queues(), passes)?;
-    Ok((
-        AnyQueues {
-            kept: Kept::Deques(queues, room),
-        },
-        passes,
-    ))
+    let passes = all_any(alloc, ranges.queues(), passes)?;
+    Ok((AnyQueues::Deques(queues), passes))
 }
 
 impl AnyQueues {
@@ -69,8 +53,8 @@ impl AnyQueues {
         kind: QueueKind,
         ranges: &Ranges,
     ) -> Result<(AnyQueues, Few<AnyPass>), Memory>
-        ensures counts { IfOk result (λ r. (total r.0.kept ≡ total_of ranges.now) × (count r.0.kept ≡ length ranges.now)) }
-        ensures passes { IfOk result (λ r. AreAll (count r.0.kept) (IsAnyOf r.0.kept) number r.1.items) }
+        ensures counts { IfOk result (λ r. (total r.0 ≡ total_of ranges.now) × (count r.0 ≡ length ranges.now)) }
+        ensures passes { IfOk result (λ r. AreAll (count r.0) (IsAnyOf r.0) number r.1.items) }
         ensures unused { IfOk result (λ r. AreUnused given ended r.1.items) }
     {
         match kind {
@@ -84,11 +68,11 @@ impl AnyQueues {
 impl TaskQueues for AnyQueues {
     type Pass = AnyPass;
 
-    ghost total = { λ q. total q.kept };
+    ghost total = { total };
 
-    ghost count = { λ q. count q.kept };
+    ghost count = { count };
 
-    ghost is_of = { λ q. IsAnyOf q.kept };
+    ghost is_of = { IsAnyOf };
 
     ghost number = { number };
 
@@ -102,26 +86,25 @@ impl TaskQueues for AnyQueues {
     }
 
     fn take(&self, pass: &mut AnyPass) -> Option<u32> {
-        match (&self.kept, pass) {
-            (Kept::Blocks(queues, _), AnyPass::Blocks(own)) => queues.take(own),
-            (Kept::Claims(queues, _), AnyPass::Claims(own)) => queues.take(own),
-            (Kept::Deques(queues, _), AnyPass::Deques(own)) => queues.take(own),
+        match (self, pass) {
+            (AnyQueues::Blocks(queues), AnyPass::Blocks(own, _)) => queues.take(own),
+            (AnyQueues::Claims(queues), AnyPass::Claims(own, _)) => queues.take(own),
+            (AnyQueues::Deques(queues), AnyPass::Deques(own, _)) => queues.take(own),
             _ => unreachable!(),
         }
     }
 
     fn finish(self, passes: Few<AnyPass>)
-        requires all { AreAll (count self.kept) (IsAnyOf self.kept) number passes.items }
+        requires all { AreAll (count self) (IsAnyOf self) number passes.items }
         requires ended { HaveEnded ended passes.items }
-        ensures { AreAllGiven (total self.kept) given passes.items }
+        ensures { AreAllGiven (total self) given passes.items }
     {
-        let AnyQueues { kept } = self;
-        match kept {
-            Kept::Blocks(queues, room) => queues.finish(all_own(passes, room)),
-            Kept::Claims(queues, room) => queues.finish(all_own(passes, room)),
-            Kept::Deques(queues, room) => queues.finish(all_own(passes, room)),
+        match self {
+            AnyQueues::Blocks(queues) => queues.finish(all_own(passes)),
+            AnyQueues::Claims(queues) => queues.finish(all_own(passes)),
+            AnyQueues::Deques(queues) => queues.finish(all_own(passes)),
         }
     }
 
-    ghost apart = { λ q p is. apart q.kept p is };
+    ghost apart = { apart };
 }

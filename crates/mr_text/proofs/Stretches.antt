@@ -1,5 +1,5 @@
 -- The words of a stretch of a text, and where they stand in the whole of it.
-use Rattle.std.proofs.Common.{◌≡◌, inl, inr, ℕ, zero, suc, ◌+◌, ◌-◌, ◌<◌, ◌≤◌, ◌==◌, ◌&&◌, ◌||◌, Bool, true, false, not, cond, List, [], ◌∷◌, ◌++◌, length, take, drop, map, get_or, refl, sym, ◌∙◌, ap, ap₂, arith, ℤ, pos}
+use Rattle.std.proofs.Common.{◌≡◌, inl, inr, ℕ, zero, suc, ◌+◌, ◌-◌, ◌<◌, ◌≤◌, ◌==◌, ◌&&◌, ◌||◌, Bool, true, false, not, cond, List, [], ◌∷◌, ◌++◌, length, take, drop, map, get_or, refl, sym, ◌∙◌, ap, ap₂, arith, pos}
 use Rattle.std.specs.Prelude.{filter, flat_map, slice_range}
 use Rattle.std.specs.List.{prefix_len, range_with_len}
 use Rattle.std.proofs.lemmas.Bool.{cases_lt, ne_eqb}
@@ -8,10 +8,10 @@ use Rattle.std.proofs.lemmas.List.Concat.{flat_map_single}
 use Rattle.std.proofs.lemmas.List.Elements.{filter-append}
 use Rattle.std.proofs.lemmas.List.Sums.{prefix_len-le-length}
 use Rattle.std.proofs.lemmas.Simd.{map-map}
-use Rattle.mr_defs.specs.Emission.{Emission, Pair}
-use Rattle.mr_defs.specs.Tasks.{items_in, task_emissions}
+use Rattle.mr_defs.specs.Emission.{Pair}
+use Rattle.mr_defs.specs.Tasks.{task_emissions}
 use Rattle.mr_defs.proofs.Joins.{items_in-range, range-append}
-use Rattle.mr_items.specs.Runs.{begins, run_at, run_places}
+use Rattle.mr_items.specs.Runs.{begins, run_at}
 use Rattle.mr_items.specs.Words.{is_word_byte, is_word_boundary, lower, word_at, word_places, words}
 use Rattle.mr_text.specs.Keyed.{word_emits, word_emissions}
 use Rattle.mr_text.proofs.Scans.{run_passes}

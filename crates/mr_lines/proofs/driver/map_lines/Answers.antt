@@ -1,18 +1,16 @@
-use Rattle.std.proofs.Common.{◌≡◌, ◌≢◌, ◌≤◌, ◌<◌, ◌+◌, ◌++◌, [], min, ℕ, ℤ, List, true, length, negsuc, get_or, take, sym, ◌∙◌, ap, subst, arith}
-use Rattle.std.specs.List.{All}
+use Rattle.std.proofs.Common.{◌≡◌, ◌≢◌, ◌<◌, ◌+◌, [], min, ℤ, true, length, negsuc, sym, ◌∙◌, ap, subst, arith}
 use Rattle.std.proofs.lemmas.List.Elements.{All-same}
 use Rattle.std.proofs.lemmas.Result.{err_from_is_err_and}
-use Rattle.mr_defs.specs.Emission.{Emission}
 use Rattle.mr_defs.specs.Tasks.{task_emissions}
 use Rattle.mr_items.specs.Lines.{begins_line, is_line_boundary, line_places}
 use Rattle.mr_container.specs.Block.{block_emissions}
 use Rattle.mr_split.specs.Pieces.{IsPiece}
-use Rattle.mr_text.specs.Sent.{Sent, SentSome}
+use Rattle.mr_text.specs.Sent.{Sent}
 use Rattle.mr_text.proofs.Sending.{sent_none, sent_all, sent_some, all_stands, some_stands}
 use Rattle.mr_lines.specs.Ends.{is_line_end}
 use Rattle.mr_lines.proofs.Driven.{some_whole, line_sent, line_some}
 use Rattle.mr_lines.proofs.Emitted.{emitted-none}
-use Rattle.mr_lines.proofs.NextLine.{inside, ends_here, next_later, next_inside, next_between, next_within}
+use Rattle.mr_lines.proofs.NextLine.{inside, ends_here, next_later, next_between, next_within}
 use Rattle.mr_lines.proofs.driver.map_lines.Given.{Over}
 use Rattle.mr_lines.proofs.driver.map_lines.Goals.{After-piece, In_ok-line, then-len-ge-BLOCK+in_ok-emit_block, else-len-ge-BLOCK}
 use Rattle.mr_lines.proofs.driver.map_lines.Goals as goal
@@ -43,6 +41,16 @@ line-requires-clause-ends g c =
     let is = is_piece g (goal.at.line-requires-clause-ends g c).After-piece in
     subst (λ text. is_line_end text c.line_end-end.result ≡ true) c.requires.text
     (ends_here c.args.text.now c.loop-at.at (omega (arith, c.loop-at-test.true, is.inside)) c.loop-at.invariant.between c.line_end-end.result c.line_end-end.ensures.place)
+
+pub line-requires-clause-within : goal.line-requires-clause-within
+line-requires-clause-within g c =
+    let is = is_piece g (goal.at.line-requires-clause-within g c).After-piece in
+    let bs = c.args.text.now in
+    let end = c.line_end-end.result in
+    let more : c.loop-at.at < length bs = omega (arith, c.loop-at-test.true, is.inside) in
+    let within = next_within bs c.loop-at.at more c.loop-at.invariant.between end c.line_end-end.ensures.place c.piece.inside.end c.loop-at-test.true is.inside is.ends in
+    let size : length bs ≡ length (g.J.LineJob.text c.args.job.now) = ap length c.requires.text in
+    (omega (arith, within, inside bs c.loop-at.at more c.loop-at.invariant.between end c.line_end-end.ensures.place), omega (arith, is.inside, size))
 
 pub returns-in_err-line-clause-err : goal.returns-in_err-line-clause-err
 returns-in_err-line-clause-err g c =
@@ -102,7 +110,7 @@ loop-at-preserved g c =
       later = omega (arith, here, past, c.loop-at.invariant.later);
       inside = let within = next_within bs at more starts end place c.piece.inside.end c.loop-at-test.true is.inside is.ends in omega (arith, here, within);
       between = ap (is_line_boundary bs) here ∙ next_between bs at more starts end place;
-      ready = subst (g.J.LineJob.ready c.args.job.now c.line.new.state) (sym (here ∙ ap (λ text. min (end + 1) (length text)) c.requires.text)) c.in_ok-line.ensures.ready;
+      ready = subst (g.J.LineJob.ready c.args.job.now c.line.new.state c.piece.inside.end) (sym (here ∙ ap (λ text. min (end + 1) (length text)) c.requires.text)) c.in_ok-line.ensures.ready;
       allowed = elim c.if-len-ge-BLOCK.branch [
         | then-len-ge-BLOCK+in_ok-emit_block w ↦ All-same (Fine g) c.if-len-ge-BLOCK.block.items [] (ap (λ v. v.items) w.block-is ∙ w.emit_block.ensures.empty) (λ k d below. absurd (omega (arith, below)))
         | else-len-ge-BLOCK w ↦ All-same (Fine g) c.if-len-ge-BLOCK.block.items c.line.new.block.items (ap (λ v. v.items) w.block-is) c.in_ok-line.ensures.allowed

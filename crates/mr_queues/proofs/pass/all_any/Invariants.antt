@@ -1,12 +1,11 @@
-use Rattle.std.proofs.Common.{◌≡◌, ◌≤◌, ◌+◌, length, map}
-use Rattle.mr_queues.proofs.Turned.{mapped_so_far}
+use Rattle.std.proofs.Common.{◌≤◌, length}
+use Rattle.mr_queues.proofs.Rooming.{SoFar}
 use Rattle.mr_queues.proofs.pass.all_any.Given as goal
 
 abbrev pub invariant-loop-pass : goal.invariant-loop-pass
 invariant-loop-pass g l = record {
-  so_far : mapped_so_far g.P.Kind.any l.all.items l.passes.items ≡ map g.P.Kind.any l.fn.passes.items;
+  so_far : SoFar g.P.Kind.any l.count l.fn.passes.items l.all.items l.passes.items l.room;
   room : length l.passes.items ≤ l.all.spare;
-  left : length l.fn.passes.items ≤ length l.passes.items + l.passes.spare;
 }
 
 abbrev pub decreases-loop-pass : goal.decreases-loop-pass

@@ -1,12 +1,12 @@
-use Rattle.std.proofs.Common.{◌≡◌, ◌≢◌, ◌≤◌, ◌<◌, ◌+◌, ◌-◌, ◌++◌, [], ℤ, ℕ, pos, true, length, negsuc, map, get_or, sym, ap, subst, ◌∙◌, arith, rules, append-nil, append_assoc, List}
+use Rattle.std.proofs.Common.{◌≡◌, ◌≢◌, ◌≤◌, ◌++◌, [], ℤ, ℕ, pos, true, length, negsuc, sym, ap, subst, ◌∙◌, arith, rules, append-nil, append_assoc, List}
 use Rattle.std.specs.List.{All}
 use Rattle.std.specs.Prelude.{slice_range}
 use Rattle.std.proofs.lemmas.List.Elements.{All-same}
 use Rattle.std.proofs.lemmas.Result.{err_from_is_err_and}
 use Rattle.mr_defs.specs.Emission.{Emission}
-use Rattle.mr_items.specs.Words.{is_word_boundary, words}
+use Rattle.mr_items.specs.Words.{is_word_boundary}
 use Rattle.mr_container.specs.Block.{block_emissions}
-use Rattle.mr_text.specs.Keyed.{word_pairs, word_emissions}
+use Rattle.mr_text.specs.Keyed.{word_emissions}
 use Rattle.mr_text.specs.Sent.{Sent, SentSome}
 use Rattle.mr_text.proofs.Pushed.{emitted-append, emitted-none, block-append, allowed-append, absurd_sign}
 use Rattle.mr_text.proofs.Sending.{sent_none, sent_more, sent_all, sent_some, sent_before, some_more}

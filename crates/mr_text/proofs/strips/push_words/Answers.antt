@@ -1,13 +1,10 @@
-use Rattle.std.proofs.Common.{◌≡◌, ◌≤◌, ◌<◌, ◌+◌, ◌-◌, ◌*◌, ◌/◌, ◌++◌, ◌∷◌, [], ℕ, length, map, pos, take, drop, get_or, refl, sym, ap, ap₂, ◌∙◌, arith, rules, append_assoc, w64}
+use Rattle.std.proofs.Common.{◌≡◌, ◌≤◌, ◌<◌, ◌+◌, ◌++◌, ◌∷◌, [], length, map, pos, get_or, refl, sym, ap, ap₂, ◌∙◌, arith, w64}
 use Rattle.std.proofs.lemmas.Int.{to_z_pos}
 use Rattle.std.specs.Prelude.{slice_range}
-use Rattle.mr_items.specs.Runs.{run_at}
-use Rattle.mr_items.specs.Words.{is_word_byte, lower, word_at, word_places, words}
-use Rattle.mr_text.specs.Keyed.{word_pairs}
+use Rattle.mr_items.specs.Words.{is_word_byte, lower, word_places, words}
 use Rattle.mr_text.proofs.Pairs.{number, start_is, end_is, start_below}
 use Rattle.mr_text.proofs.Pushed.{pushed-next, pushed-all}
 use Rattle.mr_text.proofs.Stretches.{length-stretch, stretch_at, run_inside, run_is, one_word}
-use Rattle.mr_text.proofs.strips.push_words.Given.{Over}
 use Rattle.mr_text.proofs.strips.push_words.Goals as goal
 
 pub returns-then-to-from-gt-STRIP-clause-ok : goal.returns-then-to-from-gt-STRIP-clause-ok

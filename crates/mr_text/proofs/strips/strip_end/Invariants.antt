@@ -1,4 +1,4 @@
-use Rattle.std.proofs.Common.{◌≡◌, ◌≤◌, ◌<◌, ◌+◌, ◌-◌, ℕ, true, length, get_or}
+use Rattle.std.proofs.Common.{◌≡◌, ◌≤◌, ◌<◌, ◌+◌, ◌-◌, ℕ, true, get_or}
 use Rattle.mr_items.specs.Words.{is_word_byte}
 use Rattle.mr_text.proofs.strips.strip_end.Given as goal
 

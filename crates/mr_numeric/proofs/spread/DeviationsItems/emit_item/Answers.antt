@@ -1,7 +1,6 @@
 use Rattle.std.proofs.Common.{rules, ◌≡◌, ◌≤◌, ◌<◌, ◌+◌, ◌-◌, ◌*◌, ◌++◌, ◌∷◌, [], ℕ, ℤ, ◌*ℤ◌, List, length, get_or, map, take, refl, subst, sym, ap, ap₂, ◌∙◌, arith}
 use Rattle.std.specs.Prelude.{flat_map}
 use Rattle.std.specs.List.{range_with_len}
-use Rattle.std.proofs.lemmas.List.Concat.{flat_map-append}
 use Rattle.std.proofs.lemmas.List.Folds.{flat_map-map}
 use Rattle.std.proofs.lemmas.Option.{get_or_from_slice_get}
 use Rattle.std.proofs.lemmas.Result.{err_from_is_err_and}
@@ -10,14 +9,10 @@ use Rattle.mr_items.specs.Grid.{columns_of}
 use Rattle.mr_items.specs.MatrixProduct.{sum_emits}
 use Rattle.mr_items.specs.Pca.{column_couples, deviation, spread_emits}
 use Rattle.mr_numeric.specs.Pairs.{couple_emits}
-use Rattle.mr_numeric.proofs.Emitted.{emitted, one_more, front}
+use Rattle.mr_numeric.proofs.Emitted.{emitted, one_more, front, flat_map-flat_map}
 use Rattle.mr_numeric.proofs.spread.DeviationsItems.emit_item.Given.{Over}
 use Rattle.mr_numeric.proofs.spread.DeviationsItems.emit_item.Goals.{After-as_slice-means}
 use Rattle.mr_numeric.proofs.spread.DeviationsItems.emit_item.Goals as goal
-
-flat_map-flat_map : {X Y E : Type 0} (f : Y → List E) (g : X → List Y) (xs : List X) → flat_map f (flat_map g xs) ≡ flat_map (λ x. flat_map f (g x)) xs
-flat_map-flat_map f g [] = refl
-flat_map-flat_map f g (x ∷ xs) = flat_map-append f (g x) (flat_map g xs) ∙ ap (λ l. flat_map f (g x) ++ l) (flat_map-flat_map f g xs)
 
 -- what the pairs of a column with itself and each later one emit
 abbrev column_emits : List ℤ → List ℤ → ℕ → List (Emission ℕ ℤ)

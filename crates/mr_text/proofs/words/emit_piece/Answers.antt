@@ -1,40 +1,32 @@
-use Rattle.std.proofs.Common.{◌≡◌, ◌++◌, [], ℕ, ℤ, List, length, pos, get_or, take, sym, ◌∙◌, ap, subst, arith}
+use Rattle.std.proofs.Common.{◌≡◌, ◌++◌, ℕ, ℤ, List, pos, ◌∙◌, ap, subst, arith}
 use Rattle.std.specs.Prelude.{slice_range}
 use Rattle.std.proofs.lemmas.Result.{err_from_is_err_and}
 use Rattle.mr_defs.specs.Emission.{Emission}
 use Rattle.mr_defs.specs.Tasks.{task_emissions}
-use Rattle.mr_items.specs.Words.{is_word_boundary, word_places}
-use Rattle.mr_split.specs.Pieces.{IsPiece}
+use Rattle.mr_items.specs.Words.{word_places}
 use Rattle.mr_container.specs.Block.{block_emissions}
 use Rattle.mr_text.specs.Keyed.{word_emits, word_emissions}
 use Rattle.mr_text.specs.Sent.{Sent, SentSome}
-use Rattle.mr_text.proofs.Sending.{sent_none, sent_all, sent_some, all_stands, some_stands, none_stands}
+use Rattle.mr_text.proofs.Sending.{sent_all, sent_some, all_stands, some_stands, none_stands}
 use Rattle.mr_text.proofs.Stretches.{piece_words}
-use Rattle.mr_text.proofs.words.WordCountMapper.map.Given.{Over}
-use Rattle.mr_text.proofs.words.WordCountMapper.map.Goals.{After-emit_words}
-use Rattle.mr_text.proofs.words.WordCountMapper.map.Goals as goal
+use Rattle.mr_text.proofs.words.emit_piece.Given.{Over}
+use Rattle.mr_text.proofs.words.emit_piece.Goals.{After-emit_words}
+use Rattle.mr_text.proofs.words.emit_piece.Goals as goal
 
 module _ (g : Over) (c : After-emit_words g) where
   abbrev text : List ℕ
-  text = c.args.self.now.input.now
+  text = c.args.text.now
 
   abbrev all : List (Emission g.row.K.Denot ℤ)
-  all = task_emissions (word_emits g.K.TextKey.of_text text) (word_places text) (get_or c.args.self.now.pieces.now c.args.task (0, 0))
+  all = task_emissions (word_emits g.K.TextKey.of_text text) (word_places text) (c.args.from, c.args.to)
 
-  the_piece : (c.piece.inside.start, c.piece.inside.end) ≡ get_or c.args.self.now.pieces.now c.args.task (0, 0)
-  the_piece = c.piece.view_is ∙ c.get-piece.ensures
-
-  is_piece : IsPiece (is_word_boundary text) (length text) (c.piece.inside.start, c.piece.inside.end)
-  is_piece = subst (IsPiece (is_word_boundary text) (length text)) (sym the_piece) (c.args.self.now.are c.args.task (0, 0) c.requires)
-
-  are : block_emissions c.in_ok-block.block.items ++ word_emissions g.K.TextKey.of_text (pos 1) (slice_range text c.piece.inside.start c.piece.inside.end) ≡ all
+  are : block_emissions c.in_ok-block.block.items ++ word_emissions g.K.TextKey.of_text (pos 1) (slice_range text c.args.from c.args.to) ≡ all
   are =
-      ap (λ items. block_emissions items ++ word_emissions g.K.TextKey.of_text (pos 1) (slice_range text c.piece.inside.start c.piece.inside.end)) c.in_ok-block.ensures.items
-      ∙ piece_words g.K.TextKey.of_text text c.piece.inside.start c.piece.inside.end (omega (arith, is_piece.some)) is_piece.inside is_piece.starts is_piece.ends
-      ∙ ap (task_emissions (word_emits g.K.TextKey.of_text text) (word_places text)) the_piece
+      ap (λ items. block_emissions items ++ word_emissions g.K.TextKey.of_text (pos 1) (slice_range text c.args.from c.args.to)) c.in_ok-block.ensures.items
+      ∙ piece_words g.K.TextKey.of_text text c.args.from c.args.to (omega (arith, c.requires.piece.some)) c.requires.piece.inside c.requires.piece.starts c.requires.piece.ends
 
   -- what waits behind the last word
-  sent : (left : List (Emission g.row.K.Denot ℤ)) → Sent g.L.Local.stands c.args.out.now c.emit_words.new.out (block_emissions c.in_ok-block.block.items ++ word_emissions g.K.TextKey.of_text (pos 1) (slice_range text c.piece.inside.start c.piece.inside.end)) left
+  sent : (left : List (Emission g.row.K.Denot ℤ)) → Sent g.L.Local.stands c.args.out.now c.emit_words.new.out (block_emissions c.in_ok-block.block.items ++ word_emissions g.K.TextKey.of_text (pos 1) (slice_range text c.args.from c.args.to)) left
       → Sent g.L.Local.stands c.args.out.now c.emit_words.new.out all left
   sent left = subst (λ es. Sent g.L.Local.stands c.args.out.now c.emit_words.new.out es left) are
 

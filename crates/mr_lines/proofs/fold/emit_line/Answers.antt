@@ -1,6 +1,5 @@
-use Rattle.std.proofs.Common.{◌≡◌, ◌++◌, [], ℕ, ℤ, List, length, sym, ◌∙◌, ap, subst, arith, append-nil}
+use Rattle.std.proofs.Common.{◌≡◌, ◌++◌, [], sym, ◌∙◌, ap, subst, arith, append-nil}
 use Rattle.std.specs.Prelude.{slice_range, OnOk, OnErr}
-use Rattle.mr_defs.specs.Emission.{Emission}
 use Rattle.mr_items.specs.FoldLines.{fields_emit, fold_lines_emits}
 use Rattle.mr_items.specs.Lines.{is_field_byte, without_return}
 use Rattle.mr_items.specs.Runs.{runs}
@@ -8,17 +7,17 @@ use Rattle.mr_container.specs.Block.{block_emissions}
 use Rattle.mr_text.specs.Sent.{Sent, SentSome}
 use Rattle.mr_text.proofs.Sending.{sent_none}
 use Rattle.mr_lines.proofs.Fields as fields
-use Rattle.mr_lines.proofs.fold.FoldLinesLineJob.line.Given.{Over}
-use Rattle.mr_lines.proofs.fold.FoldLinesLineJob.line.Goals.{In_ok-count}
-use Rattle.mr_lines.proofs.fold.FoldLinesLineJob.line.Goals as goal
+use Rattle.mr_lines.proofs.fold.emit_line.Given.{Over}
+use Rattle.mr_lines.proofs.fold.emit_line.Goals.{In_ok-count}
+use Rattle.mr_lines.proofs.fold.emit_line.Goals as goal
 
 -- what the line emits is what its fields do
-emits_is : (g : Over) (c : In_ok-count g) → fold_lines_emits g.K.FieldKey.of_field c.args.self.now.lines.input.now c.args.from ≡ fields_emit g.K.FieldKey.of_field c.args.from (runs is_field_byte (slice_range c.args.self.now.lines.input.now c.args.from c.without_return-end.result))
+emits_is : (g : Over) (c : In_ok-count g) → fold_lines_emits g.K.FieldKey.of_field c.args.text.now c.args.from ≡ fields_emit g.K.FieldKey.of_field c.args.from (runs is_field_byte (slice_range c.args.text.now c.args.from c.without_return-end.result))
 emits_is g c = ap (λ l. fields_emit g.K.FieldKey.of_field c.args.from (runs is_field_byte l)) (ap without_return c.requires.line ∙ sym c.without_return-end.ensures.rest)
 
 pub returns-then-count-eq0-clause-ok : goal.returns-then-count-eq0-clause-ok
 returns-then-count-eq0-clause-ok g c =
-    let bs = c.args.self.now.lines.input.now in
+    let bs = c.args.text.now in
     let before = block_emissions c.args.block.now.items in
     let place = c.without_return-end.ensures.place in
     let none : fold_lines_emits g.K.FieldKey.of_field bs c.args.from ≡ [] = emits_is g (goal.at.returns-then-count-eq0-clause-ok g c).In_ok-count

@@ -1,0 +1,52 @@
+ghost use Rattle.mr_queues.specs.Queues.{IsAnyOf};
+
+use crate::{AnyPass, AnyQueues};
+use mr_base::{Memory, Ranges, TaskQueues};
+use mr_capacity::QueueKind;
+use std::alloc::Global;
+use std::test::Fail;
+use std::thread::{Threads, join};
+
+// The tasks that a pass takes, a bit for each.
+fn taken(queues: &AnyQueues, mut pass: AnyPass) -> u32
+    requires { IsAnyOf queues.now pass }
+{
+    let mut tasks = 0;
+    for _ in 0..16 {
+        if let Some(task) = queues.take(&mut pass) {
+            tasks ^= 1 << (task % 16);
+        }
+    }
+    tasks
+}
+
+// The tasks that two workers take beside each other, a bit for each that one of them took.
+fn taken_by_two<R: Threads>(rt: &R, alloc: Global, kind: QueueKind) -> Result<u32, Memory> {
+    let ranges = Ranges::even(alloc, 7, 2)?;
+    let (queues, mut passes) = AnyQueues::of(alloc, kind, &ranges)?;
+    let Some(second) = passes.pop() else {
+        return Ok(0);
+    };
+    let Some(first) = passes.pop() else {
+        return Ok(0);
+    };
+    let queues = &queues;
+    let (one, other) = join(
+        rt,
+        move ||
+            requires { IsAnyOf queues.now first }
+        { taken(queues, first) },
+        move ||
+            requires { IsAnyOf queues.now second }
+        { taken(queues, second) },
+    );
+    Ok(one ^ other)
+}
+
+#[test]
+fn each_task_once(rt: HostRuntime) -> Result<(), Fail> {
+    for kind in [QueueKind::Blocks, QueueKind::Ranges, QueueKind::Deques] {
+        assert_eq!(rt; taken_by_two(&rt, rt.alloc(), kind)?, 127);
+    }
+    Ok(())
+}
