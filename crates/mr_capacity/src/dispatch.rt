@@ -25,71 +25,47 @@ macro_rules! combiner_type {
     ($name:ident) => { $name };
 }
 
+/// Calls a function at two lists of types, one behind the other: `called_at!(call [A, B] [C] (x, y))` is `call::<A, B, C>(x, y)`.
+#[macro_export]
+macro_rules! called_at {
+    ($call:ident [$($first:ty),*] [$($second:ty),*] $arguments:tt) => {
+        $call::<$($first,)* $($second),*> $arguments
+    };
+}
+
 /// Calls a function at the type of the combiner that a job has and at the reducer of plain combiners:
-/// `at_combiner!(combiner, { Sum, MinMax }, call<A>(x, y))` is `call::<A, Both<Min, Max>, Plain>(x, y)` where the combiner is
-/// `CombinerKind::MinMax`. The function has no type parameter, one or two before these. The names are all combiners that the table
-/// `PAIRINGS` has for the job; the arm for any other is never reached, which the check proves where the job's kind is known.
+/// `at_combiner!(combiner, { Sum, MinMax }, call[A, B](x, y))` is `call::<A, B, Both<Min, Max>, Plain>(x, y)` where the combiner is
+/// `CombinerKind::MinMax`. The names are all combiners that the table `PAIRINGS` has for the job; the arm for any other is never reached, which the
+/// check proves where the job's kind is known.
 #[macro_export]
 macro_rules! at_combiner {
-    ($combiner:expr, { $($name:ident),* }, $call:ident<$first:ty, $second:ty>$arguments:tt) => {
+    ($combiner:expr, { $($name:ident),* }, $call:ident $types:tt $arguments:tt) => {
         match $combiner {
-            $(CombinerKind::$name => $call::<$first, $second, $crate::combiner_type!($name), Plain> $arguments,)*
-            _ => unreachable!(),
-        }
-    };
-    ($combiner:expr, { $($name:ident),* }, $call:ident<$first:ty>$arguments:tt) => {
-        match $combiner {
-            $(CombinerKind::$name => $call::<$first, $crate::combiner_type!($name), Plain> $arguments,)*
-            _ => unreachable!(),
-        }
-    };
-    ($combiner:expr, { $($name:ident),* }, $call:ident $arguments:tt) => {
-        match $combiner {
-            $(CombinerKind::$name => $call::<$crate::combiner_type!($name), Plain> $arguments,)*
+            $(CombinerKind::$name => $crate::called_at!($call $types [$crate::combiner_type!($name), Plain] $arguments),)*
             _ => unreachable!(),
         }
     };
 }
 
-/// Calls a function at the combiner `Buffer` and the reducer that a job has beside it: `at_reducer!(reducer, { List, Distinct }, call<A>(x, y))` is
-/// `call::<A, Buffer, List>(x, y)` where the reducer is `Some(ReducerKind::List)`. Type parameters, names and the last arm are as in
-/// `at_combiner!`.
+/// Calls a function at the combiner `Buffer` and the reducer that a job has beside it: `at_reducer!(reducer, { List, Distinct }, call[A](x, y))` is
+/// `call::<A, Buffer, List>(x, y)` where the reducer is `Some(ReducerKind::List)`. Names and the last arm are as in `at_combiner!`.
 #[macro_export]
 macro_rules! at_reducer {
-    ($reducer:expr, { $($name:ident),* }, $call:ident<$first:ty, $second:ty>$arguments:tt) => {
+    ($reducer:expr, { $($name:ident),* }, $call:ident $types:tt $arguments:tt) => {
         match $reducer {
-            $(Some(ReducerKind::$name) => $call::<$first, $second, Buffer, $name> $arguments,)*
-            _ => unreachable!(),
-        }
-    };
-    ($reducer:expr, { $($name:ident),* }, $call:ident<$first:ty>$arguments:tt) => {
-        match $reducer {
-            $(Some(ReducerKind::$name) => $call::<$first, Buffer, $name> $arguments,)*
-            _ => unreachable!(),
-        }
-    };
-    ($reducer:expr, { $($name:ident),* }, $call:ident $arguments:tt) => {
-        match $reducer {
-            $(Some(ReducerKind::$name) => $call::<Buffer, $name> $arguments,)*
+            $(Some(ReducerKind::$name) => $crate::called_at!($call $types [Buffer, $name] $arguments),)*
             _ => unreachable!(),
         }
     };
 }
 
-/// Calls one of some functions, by the container that a job has: `at_container!(container, { Hash => in_table, Array => in_array }, <C, R>(x, y))` is
-/// `in_array::<C, R>(x, y)` where the container is `ContainerKind::Array`. There are two type parameters or none; names and the last arm are as
-/// in `at_combiner!`.
+/// Calls one of some functions, by the container that a job has: `at_container!(container, { Hash => in_table, Array => in_array }, [C, R](x, y))` is
+/// `in_array::<C, R>(x, y)` where the container is `ContainerKind::Array`. Names and the last arm are as in `at_combiner!`.
 #[macro_export]
 macro_rules! at_container {
-    ($container:expr, { $($name:ident => $call:ident),* }, <$first:ty, $second:ty>$arguments:tt) => {
+    ($container:expr, { $($name:ident => $call:ident),* }, $types:tt $arguments:tt) => {
         match $container {
-            $(ContainerKind::$name => $call::<$first, $second> $arguments,)*
-            _ => unreachable!(),
-        }
-    };
-    ($container:expr, { $($name:ident => $call:ident),* }, $arguments:tt) => {
-        match $container {
-            $(ContainerKind::$name => $call $arguments,)*
+            $(ContainerKind::$name => $crate::called_at!($call $types [] $arguments),)*
             _ => unreachable!(),
         }
     };

@@ -3,21 +3,25 @@ use Rattle.std.proofs.Common.{refl, true, false, codes, [], ◌∷◌, ◌≡◌
 use Rattle.clap.proofs.OnLiterals.{clap_on_literals}
 use Rattle.mr_command.specs.declared.command.Mode.TheVariants as mode
 use Rattle.mr_command.specs.Simple.{is_accepted, rows}
-use Rattle.mr_command.specs.Form.{form, built_form}
+use Rattle.mr_command.specs.Form.{form}
 
-plain : built_form (codes "mapred" ∷ codes "W" ∷ codes "in" ∷ []) ≡ Some (record { workers = 1; mode = mode.Run; report = false; job = codes "W"; inputs = codes "in" ∷ [] })
+plain : form (codes "mapred" ∷ codes "W" ∷ codes "in" ∷ []) ≡
+    Some (record { workers = 1; mode = mode.Run; report = false; job = codes "W"; inputs = codes "in" ∷ [] })
 unfolding clap_on_literals is_accepted rows
 plain = refl
 
-options_in_front : form (codes "mapred" ∷ codes "--workers" ∷ codes "32" ∷ codes "--mode=check" ∷ codes "W" ∷ []) ≡ Some (record { workers = 32; mode = mode.Check; report = false; job = codes "W"; inputs = [] })
+options_in_front : form (codes "mapred" ∷ codes "--workers" ∷ codes "32" ∷ codes "--mode=check" ∷ codes "W" ∷ []) ≡
+    Some (record { workers = 32; mode = mode.Check; report = false; job = codes "W"; inputs = [] })
 unfolding clap_on_literals is_accepted rows
 options_in_front = refl
 
-options_behind : form (codes "mapred" ∷ codes "W" ∷ codes "in" ∷ codes "--report" ∷ []) ≡ Some (record { workers = 1; mode = mode.Run; report = true; job = codes "W"; inputs = codes "in" ∷ [] })
+options_behind : form (codes "mapred" ∷ codes "W" ∷ codes "in" ∷ codes "--report" ∷ []) ≡
+    Some (record { workers = 1; mode = mode.Run; report = true; job = codes "W"; inputs = codes "in" ∷ [] })
 unfolding clap_on_literals is_accepted rows
 options_behind = refl
 
-dashes : form (codes "mapred" ∷ codes "W" ∷ codes "-" ∷ codes "--" ∷ codes "--report" ∷ []) ≡ Some (record { workers = 1; mode = mode.Run; report = false; job = codes "W"; inputs = codes "-" ∷ codes "--report" ∷ [] })
+dashes : form (codes "mapred" ∷ codes "W" ∷ codes "-" ∷ codes "--" ∷ codes "--report" ∷ []) ≡
+    Some (record { workers = 1; mode = mode.Run; report = false; job = codes "W"; inputs = codes "-" ∷ codes "--report" ∷ [] })
 unfolding clap_on_literals is_accepted rows
 dashes = refl
 
@@ -25,7 +29,14 @@ empty_name : form (codes "mapred" ∷ codes "" ∷ []) ≡ Some (record { worker
 unfolding clap_on_literals is_accepted rows
 empty_name = refl
 
-generator : form (codes "mapred" ∷ codes "--mode" ∷ codes "generate" ∷ codes "W" ∷ codes "18446744073709551615" ∷ codes "1000000" ∷ []) ≡ Some (record { workers = 1; mode = mode.Generate; report = false; job = codes "W"; inputs = codes "18446744073709551615" ∷ codes "1000000" ∷ [] })
+generator : form (codes "mapred" ∷ codes "--mode" ∷ codes "generate" ∷ codes "W" ∷ codes "18446744073709551615" ∷ codes "1000000" ∷ [])
+    ≡ Some (record {
+      workers = 1;
+      mode = mode.Generate 18446744073709551615 1000000;
+      report = false;
+      job = codes "W";
+      inputs = codes "18446744073709551615" ∷ codes "1000000" ∷ [];
+    })
 unfolding clap_on_literals is_accepted rows
 generator = refl
 
@@ -65,7 +76,8 @@ help : form (codes "mapred" ∷ codes "--help" ∷ []) ≡ None
 unfolding clap_on_literals is_accepted rows
 help = refl
 
-help_word : form (codes "mapred" ∷ codes "help" ∷ []) ≡ Some (record { workers = 1; mode = mode.Run; report = false; job = codes "help"; inputs = [] })
+help_word : form (codes "mapred" ∷ codes "help" ∷ []) ≡
+    Some (record { workers = 1; mode = mode.Run; report = false; job = codes "help"; inputs = [] })
 unfolding clap_on_literals is_accepted rows
 help_word = refl
 
@@ -84,7 +96,3 @@ flag_with_value = refl
 unknown_option : form (codes "mapred" ∷ codes "-5" ∷ codes "W" ∷ []) ≡ None
 unfolding clap_on_literals is_accepted rows
 unknown_option = refl
-
-report_unbuilt : built_form (codes "mapred" ∷ codes "--report" ∷ codes "W" ∷ codes "in" ∷ []) ≡ None
-unfolding clap_on_literals is_accepted rows
-report_unbuilt = refl

@@ -1,5 +1,5 @@
 -- The form of a command's words.
-use Rattle.std.specs.Prelude.{ℕ, Bool, true, false, not, ◌&&◌, ◌||◌, ◌==◌, nat_le, is_some, if◌then◌else◌, List, [], codes, length, Option, Some, None, option_and_then, slice_index, slice_index_or}
+use Rattle.std.specs.Prelude.{ℕ, ◌≤◌, Bool, false, not, ◌&&◌, ◌||◌, ◌==◌, if◌then◌else◌, List, [], codes, length, Option, Some, None, option_map, option_and_then, slice_index, slice_index_or}
 use Rattle.std.specs.Option.{option_map_or}
 use Rattle.std.specs.Str.{bytes_eq}
 use Rattle.std.specs.Str.Parse.{digits_value}
@@ -17,23 +17,58 @@ pub record Form : Type 0 where
   pub job : List ℕ
   pub inputs : List (List ℕ)
 
+-- the most workers of a run, and the largest seed and the most words of the generator
+abbrev pub workers_most : ℕ
+workers_most = 32
+
+abbrev pub seed_most : ℕ
+seed_most = 18446744073709551615
+
+abbrev pub words_most : ℕ
+words_most = 1000000
+
 -- the number of a numeral without a sign or a leading zero, where it is at most this
 abbrev pub numeral_up_to : ℕ → List ℕ → Option ℕ
-numeral_up_to most text = if (not (slice_index text 0 == 48) || (length text == 1)) && is_numeral_up_to most text then Some (digits_value 10 text) else None
+numeral_up_to most text =
+    if (not (slice_index text 0 == 48) || (length text == 1)) && is_numeral_up_to most text then Some (digits_value 10 text) else None
+
+-- the same of a number that isn't 0
+abbrev pub counter_up_to : ℕ → List ℕ → Option ℕ
+counter_up_to most text = option_and_then (λ n. if n == 0 then None else Some n) (numeral_up_to most text)
 
 abbrev pub workers_of : Option (List ℕ) → Option ℕ
 workers_of None = Some 1
-workers_of (Some text) = option_and_then (λ n. if n == 0 then None else Some n) (numeral_up_to 32 text)
+workers_of (Some text) = counter_up_to workers_most text
 
-abbrev pub mode_of : Option (List ℕ) → Option Mode
-mode_of None = Some mode.Run
-mode_of (Some text) = if bytes_eq text (codes "run") then Some mode.Run else (if bytes_eq text (codes "check") then Some mode.Check else (if bytes_eq text (codes "generate") then Some mode.Generate else None))
+-- a job is checked without an input
+abbrev pub check_of : List (List ℕ) → Option Mode
+check_of inputs = if length inputs == 0 then Some mode.Check else None
 
--- no input to check a job; a seed and a count to generate one; any number to run it
-abbrev pub takes_inputs : Mode → List (List ℕ) → Bool
-takes_inputs mode.Run inputs = true
-takes_inputs mode.Check inputs = length inputs == 0
-takes_inputs mode.Generate inputs = (length inputs == 2) && (is_some (numeral_up_to 18446744073709551615 (slice_index_or inputs 0 [])) && option_map_or (λ n. nat_le 1 n) (numeral_up_to 1000000 (slice_index_or inputs 1 [])) false)
+-- a text is generated of a seed and a count of words
+abbrev pub generate_of : List (List ℕ) → Option Mode
+generate_of inputs =
+    if length inputs == 2
+    then option_and_then (λ seed. option_map (λ count. mode.Generate seed count) (counter_up_to words_most (slice_index_or inputs 1 [])))
+    (numeral_up_to seed_most (slice_index_or inputs 0 []))
+    else None
+
+-- the mode that a value names with these inputs, of which a run has any number, and to run where there is no value
+abbrev pub mode_of : List (List ℕ) → Option (List ℕ) → Option Mode
+mode_of inputs None = Some mode.Run
+mode_of inputs (Some text) =
+    if bytes_eq text (codes "run") then Some mode.Run
+    else (if bytes_eq text (codes "check") then check_of inputs
+    else (if bytes_eq text (codes "generate") then generate_of inputs else None))
+
+-- one or more, and no more than this
+abbrev pub IsUpTo : ℕ → ℕ → Type 0
+IsUpTo most n = (1 ≤ n) × (n ≤ most)
+
+-- a generator has a word, and no more than it may
+abbrev pub IsWithin : Mode → Type 0
+IsWithin mode.Run = Unit {0}
+IsWithin mode.Check = Unit {0}
+IsWithin (mode.Generate seed count) = IsUpTo words_most count
 
 -- the words ask for a report; and the inputs that they name
 abbrev pub is_report : List Row → Bool
@@ -45,25 +80,12 @@ inputs_in found = option_map_or (λ names. names) (all_of (codes "INPUT") found)
 -- the form of what clap reads, none where a value has no form
 abbrev pub form_of_rows : List Row → Option Form
 form_of_rows found =
-    option_and_then (λ workers. option_and_then (λ m. option_and_then (λ job.
-    if takes_inputs m (inputs_in found) then Some (record { workers = workers; mode = m; report = is_report found; job = job; inputs = inputs_in found }) else None)
-    (first_of (codes "JOB") found)) (mode_of (first_of (codes "mode") found))) (workers_of (first_of (codes "workers") found))
+    option_and_then (λ workers. option_and_then (λ job. option_map (λ m.
+    record { workers = workers; mode = m; report = is_report found; job = job; inputs = inputs_in found })
+    (mode_of (inputs_in found) (first_of (codes "mode") found)))
+    (first_of (codes "JOB") found))
+    (workers_of (first_of (codes "workers") found))
 
 -- none where clap refuses the words or a value has no form
 abbrev pub form : List (List ℕ) → Option Form
 form words = if is_accepted words then form_of_rows (rows words) else None
-
--- the report and the generator aren't built yet
-abbrev pub is_built_mode : Mode → Bool
-is_built_mode mode.Run = true
-is_built_mode mode.Check = true
-is_built_mode mode.Generate = false
-
-abbrev pub built : Form → Option Form
-built f = if not f.report && is_built_mode f.mode then Some f else None
-
-abbrev pub built_form_of_rows : List Row → Option Form
-built_form_of_rows found = option_and_then built (form_of_rows found)
-
-abbrev pub built_form : List (List ℕ) → Option Form
-built_form words = option_and_then built (form words)

@@ -1,7 +1,7 @@
 ghost use Rattle.std.specs.Prelude.{◌≡◌, IfOk, Some, None, map};
 ghost use Rattle.clap.specs.Words.{found_of, rows_of};
 ghost use Rattle.mr_command.specs.Asked.{asked};
-ghost use Rattle.mr_command.specs.Form.{built_form, built_form_of_rows, inputs_in, is_report};
+ghost use Rattle.mr_command.specs.Form.{IsUpTo, IsWithin, form, form_of_rows, inputs_in, is_report, workers_most};
 
 use crate::parse::{parse, value_of, values_of};
 use crate::value::{mode, workers};
@@ -14,18 +14,21 @@ use std::alloc::Global;
 pub enum Mode {
     Run,
     Check,
-    Generate,
+    /// From 1 to 1000000 words, by the generator whose state starts at the seed.
+    Generate { seed: u64, count: u32 },
 }
 
 /// The words have no form.
 #[derive(Clone, Copy, Debug, PartialEq, Eq)]
 pub struct Usage;
 
-/// A command: from 1 to 32 workers, a mode, the name of the job file and the names of the inputs.
+/// A command: from 1 to 32 workers, a mode, whether a report is asked for, the name of the job file and the names of the inputs, which in the
+/// mode `generate` are the seed and the count.
 #[derive(Drop)]
 pub struct Command {
     pub workers: u32,
     pub mode: Mode,
+    pub report: bool,
     pub job: Word,
     pub inputs: Vec<Word>,
 }
@@ -61,41 +64,39 @@ fn copies(alloc: Global, names: &[&str]) -> Result<Vec<Word>, Memory>
     Ok(copies)
 }
 
-// The command of accepted words, where their values have a form that is built.
+// The command of accepted words, where their values have a form.
 fn judged(alloc: Global, matches: &ArgMatches<'_>) -> Result<Command, Stop<Usage>>
-    ensures ok { IfOk result (λ c. built_form_of_rows (rows_of (found_of matches.now)) ≡ Some (asked c)) }
-    ensures usage { (u : Usage) → result ≡ Err (Stop.Refused u) → built_form_of_rows (rows_of (found_of matches.now)) ≡ None }
+    ensures ok { IfOk result (λ c. form_of_rows (rows_of (found_of matches.now)) ≡ Some (asked c)) }
+    ensures usage { (u : Usage) → result ≡ Err (Stop.Refused u) → form_of_rows (rows_of (found_of matches.now)) ≡ None }
+    ensures workers { IfOk result (λ c. IsUpTo workers_most c.workers) }
+    ensures within { IfOk result (λ c. IsWithin c.mode) }
 {
     let Some(workers) = workers(value_of(matches, "workers")) else {
-        return Err(Stop::Refused(Usage));
-    };
-    let Some(mode) = mode(value_of(matches, "mode")) else {
         return Err(Stop::Refused(Usage));
     };
     let Some(job) = value_of(matches, "JOB") else {
         return Err(Stop::Refused(Usage));
     };
-    if asks_report(matches) || mode == Mode::Generate {
-        return Err(Stop::Refused(Usage));
-    }
-    let job = Word::of(alloc, job)?;
     let inputs = input_names(alloc, matches)?;
-    if mode == Mode::Check && !inputs.is_empty() {
+    let Some(mode) = mode(value_of(matches, "mode"), &inputs) else {
         return Err(Stop::Refused(Usage));
-    }
+    };
+    let job = Word::of(alloc, job)?;
     Ok(Command {
         workers,
         mode,
+        report: asks_report(matches),
         job,
         inputs,
     })
 }
 
-/// The command that the words ask for, of which the first is the program's name and means nothing. Usage exactly where they have no form, or ask for
-/// a report or the mode `generate`, which aren't built yet.
+/// The command that the words ask for, of which the first is the program's name and means nothing. Usage exactly where they have no form.
 pub fn read_command(alloc: Global, words: &[Word]) -> Result<Command, Stop<Usage>>
-    ensures ok { IfOk result (λ c. built_form words.now ≡ Some (asked c)) }
-    ensures usage { (u : Usage) → result ≡ Err (Stop.Refused u) → built_form words.now ≡ None }
+    ensures ok { IfOk result (λ c. form words.now ≡ Some (asked c)) }
+    ensures usage { (u : Usage) → result ≡ Err (Stop.Refused u) → form words.now ≡ None }
+    ensures workers { IfOk result (λ c. IsUpTo workers_most c.workers) }
+    ensures within { IfOk result (λ c. IsWithin c.mode) }
 {
     let matches = parse(alloc, words)?;
     judged(alloc, &matches)

@@ -28,13 +28,29 @@ fn commands_in_form(rt: HostRuntime) -> Result<(), Fail> {
     assert_eq!(rt; command.inputs[1].as_str(), "-");
     let check = read(alloc, &["mapred", "--mode", "check", "--", "--report"])?;
     assert!(rt; check.mode == Mode::Check);
+    assert!(rt; !check.report);
     assert_eq!(rt; check.job.as_str(), "--report");
+    let largest = "18446744073709551615";
+    let generate = read(
+        alloc,
+        &[
+            "mapred",
+            "--mode=generate",
+            "--report",
+            "W",
+            largest,
+            "1000000",
+        ],
+    )?;
+    let (seed, count) = (u64::MAX, 1000000);
+    assert!(rt; generate.mode == Mode::Generate { seed, count });
+    assert!(rt; generate.report);
     Ok(())
 }
 
 #[test]
 fn words_without_form(rt: HostRuntime) {
-    let cases: [&[&str]; 11] = [
+    let cases: [&[&str]; 13] = [
         &[],
         &["mapred"],
         &["mapred", "--workers", "0", "W", "in"],
@@ -43,8 +59,17 @@ fn words_without_form(rt: HostRuntime) {
         &["mapred", "--workers=", "W", "in"],
         &["mapred", "--mode", "fast", "W", "in"],
         &["mapred", "--mode", "check", "W", "in"],
-        &["mapred", "--report", "W", "in"],
-        &["mapred", "--mode", "generate", "W", "0", "1"],
+        &["mapred", "--mode", "generate", "W", "00", "1"],
+        &["mapred", "--mode", "generate", "W", "0", "0"],
+        &["mapred", "--mode", "generate", "W", "0", "1000001"],
+        &[
+            "mapred",
+            "--mode",
+            "generate",
+            "W",
+            "18446744073709551616",
+            "1",
+        ],
         &["mapred", "--help"],
     ];
     for words in cases {

@@ -27,7 +27,7 @@ word_job = record {
   keys = keys.Bytes;
   combiner = combiner.Sum;
   reducer = None;
-  queue = queue.Blocks;
+  queue = queue.Deques;
   partitions = 16;
   chunk = 65536;
   clusters = 0;
@@ -39,7 +39,7 @@ words_given : job_of words ≡ Ok word_job
 unfolding toml_on_literals chars encode_utf8 is_utf8 job_of document_of
 words_given = refl
 
-all_given : job_of (words ++ codes "queue = \"blocks\"\npartitions = 64\nchunk = 1\n") ≡ Ok (record word_job { partitions = 64; chunk = 1 })
+all_given : job_of (words ++ codes "queue = \"blocks\"\npartitions = 64\nchunk = 1\n") ≡ Ok (record word_job { queue = queue.Blocks; partitions = 64; chunk = 1 })
 unfolding toml_on_literals chars encode_utf8 is_utf8 job_of document_of
 all_given = refl
 

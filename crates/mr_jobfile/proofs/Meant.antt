@@ -27,7 +27,7 @@ plain = record {
   keys = keys.Numbers;
   combiner = combiner.Sum;
   reducer = None;
-  queue = queue.Blocks;
+  queue = queue.Deques;
   partitions = 16;
   chunk = 64;
   clusters = 0;
@@ -71,7 +71,7 @@ product : meant (file (codes "matrix_product") (codes "common") (codes "16") (co
 unfolding toml_on_literals chars encode_utf8 is_utf8 document_of
 product = refl
 
-clustered : meant (file (codes "kmeans") (codes "array") (codes "16") (codes "vecsum") (codes "clusters = 2\nrounds = 9\nqueue = \"deques\"\nchunk = 3\n")) ≡ Some (Some (record plain { job = job.KMeans; combiner = combiner.VecSum; clusters = 2; rounds = 9; queue = queue.Deques; chunk = 3 }))
+clustered : meant (file (codes "kmeans") (codes "array") (codes "16") (codes "vecsum") (codes "clusters = 2\nrounds = 9\nqueue = \"ranges\"\nchunk = 3\n")) ≡ Some (Some (record plain { job = job.KMeans; combiner = combiner.VecSum; clusters = 2; rounds = 9; queue = queue.Ranges; chunk = 3 }))
 unfolding toml_on_literals chars encode_utf8 is_utf8 document_of
 clustered = refl
 

@@ -80,7 +80,7 @@ pub record SeenJob : Type 0 where
 
 -- the queue, the partitions and the chunk of a job whose file gives none
 abbrev pub default_queue : QueueKind
-default_queue = queue.Blocks
+default_queue = queue.Deques
 
 abbrev pub default_partitions : ℕ
 default_partitions = 16

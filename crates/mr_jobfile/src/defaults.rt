@@ -1,7 +1,7 @@
 use mr_capacity::QueueKind;
 
 /// The queue of a job file that names none.
-pub const DEFAULT_QUEUE: QueueKind = QueueKind::Blocks;
+pub const DEFAULT_QUEUE: QueueKind = QueueKind::Deques;
 
 /// The partitions of a job file that gives no number.
 pub const DEFAULT_PARTITIONS: u32 = 16;

@@ -56,7 +56,7 @@ const FILES: [(&str, &str); 39] = [
     ),
     (
         "version = 1\njob = \"fold_lines\"\ncontainer = \"hash\"\ncapacity = 1024\ncombiner = \"sum\"\n",
-        "bad job",
+        "pairing",
     ),
     (
         "version = 1\njob.kind = \"word_count\"\ncontainer = \"hash\"\ncapacity = 1024\ncombiner = \"sum\"\n",
@@ -133,13 +133,11 @@ const FILES: [(&str, &str); 39] = [
 ];
 
 /// Lines after those of a good file.
-const TAILS: [(&str, &str); 30] = [
+const TAILS: [(&str, &str); 28] = [
     ("reducer = \"list\"", "pairing"),
     ("reducer = \"mean\"", "bad reducer"),
     ("keys = \"bytes\"", "pairing"),
     ("keys = \"words\"", "bad keys"),
-    ("queue = \"ranges\"", "bad queue"),
-    ("queue = \"deques\"", "bad queue"),
     ("queue = \"lifo\"", "bad queue"),
     ("queue.kind = \"blocks\"", "bad queue"),
     ("partitions = 0", "bad partitions"),
@@ -258,7 +256,7 @@ fn jobs(rt: HostRuntime) -> Result<(), Fail> {
     assert_eq!(rt; job.keys, KeyKind::Bytes);
     assert_eq!(rt; job.combiner, CombinerKind::Sum);
     assert_eq!(rt; job.reducer, None);
-    assert_eq!(rt; job.queue, QueueKind::Blocks);
+    assert_eq!(rt; job.queue, QueueKind::Deques);
     assert_eq!(rt; job.partitions, 16);
     assert_eq!(rt; job.chunk, 65536);
     assert_eq!(rt; (job.clusters, job.rounds, job.patterns.len()), (0, 0, 0));

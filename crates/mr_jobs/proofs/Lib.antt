@@ -1,2 +1,12 @@
+mod Sharing
+mod Merging
 mod SameRound
 mod OneRound
+mod GeneratedRows
+mod Pictured
+mod Passed
+mod Reports
+mod Printing
+mod SpanShares
+mod Grids
+mod Factors

@@ -1,3 +1,7 @@
 pub mod Ending
 pub mod Meets
+pub mod Shares
 pub mod JobEnding
+pub mod LawfulReport
+pub mod Generated
+pub mod Printable

@@ -7,12 +7,25 @@
 //! Its promise: `run_job` gives the text of that ending, or its refusal with status and line. Want of memory alone is free.
 #![tactic(auto)]
 
+mod fold_lines;
+mod histogram;
+mod input;
+mod inverted_index;
 mod job;
+mod linear_regression;
+mod matrix_product;
 mod output;
+mod phases;
 mod refusal;
 mod round;
+mod string_match;
+#[cfg(test)]
+mod tests;
 mod word_count;
+mod workers;
 
 pub use job::{run_job, wanted};
 pub use output::Output;
 pub use refusal::{Refusal, input_words};
+pub use word_count::run_generated;
+pub use workers::Workers;

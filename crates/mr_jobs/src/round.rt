@@ -1,59 +1,175 @@
-ghost use Rattle.std.specs.Prelude.{◌≡◌, ◌≤◌, [], false};
+ghost use Rattle.std.specs.Prelude.{◌≡◌, ◌≤◌, [], All, IfOk, false, length};
 ghost use Rattle.std.specs.List.{flat_map, range_with_len};
+ghost use Rattle.std.specs.Ordering.{nat_cmp};
 ghost use Rattle.mr_defs.specs.Rounds.{round_of};
-ghost use Rattle.mr_items.specs.Keys.{all_inside};
-ghost use Rattle.mr_jobs.specs.Meets.{Meets};
+ghost use Rattle.mr_items.specs.Keys.{all_inside, below};
+ghost use Rattle.mr_jobs.specs.JobEnding.{inside_of, is_shared};
+ghost use Rattle.mr_jobs.specs.Meets.{MeetsSeen};
+ghost use Rattle.mr_jobs.specs.Shares.{IsLawfulRound};
+ghost use Rattle.mr_report.specs.Shown.{workers_of};
 
-use mr_base::{Fault, Memory, Rows, Stop};
-use mr_capacity::at_capacity;
+use crate::phases::{Round, run_round};
+use crate::workers::Workers;
+use mr_array::{ArrayLocal, Size};
+use mr_base::{Fault, Few, Key, Memory, NumKey, Stop};
+use mr_capacity::{ContainerKind, at_capacity};
 use mr_combine::{Combiner, Reducer};
-use mr_container::{Mapper, Parted};
+use mr_container::{Local, Mapper};
 use mr_hash::HashLocal;
 use mr_jobfile::Job;
-use mr_phase::{ReducedLocal, map_and_reduce};
+use mr_outside::Gate;
 use std::alloc::Global;
+use std::marker::Brand;
+use std::thread::Threads;
 
-/// One round: the rows of what all tasks emit, ascending by key, or the first fault of that. The local stands for no emission yet.
-///
-/// This is the one place where tasks are mapped and cells reduced.
-fn round<L: Parted, M: Mapper<Key = L::Key, Value = L::Value>, R: Reducer<L::Fold>>(
+// How many buckets a hash table has, whatever capacity the job names: no answer shows it, and at each number all that works on tables would be
+// compiled once more.
+const BUCKETS: usize = 65536;
+
+// As many tables as there are workers.
+fn tables<K: Key, C: Combiner>(
     alloc: Global,
-    mapper: &M,
-    local: L,
-) -> Result<Rows<L::Key>, Stop<Fault<L::Key>>>
-    requires { L.stands local [] }
-    ensures { Meets (round_of L.Key.cmp L.inside false R.folded
-        (flat_map (M.task_emissions mapper.now) (range_with_len 0 (M.task_count mapper.now)))) result }
+    count: u32,
+) -> Result<Few<HashLocal<K, C, BUCKETS>>, Memory>
+    ensures count { IfOk result (λ tables. length tables.items ≡ count) }
+    ensures empty { IfOk result (λ tables. All (λ table. ⟦<HashLocal<K, C, 65536> as Local>⟧.stands table []) tables.items) }
 {
-    let ReducedLocal { rows, faults } = map_and_reduce::<L, M, R>(alloc, mapper, local)?;
-    match faults.first() {
-        Some(fault) => Err(Stop::Refused(fault)),
-        None => Ok(rows),
+    let mut tables = Few::with_room(alloc, count)?;
+    for _ in 0..count {
+        tables.push(HashLocal::new(alloc)?);
     }
+    Ok(tables)
 }
 
-// A round in hash tables of N buckets.
-fn in_hash<M: Mapper, C: Combiner<Value = M::Value>, R: Reducer<C>, const N: usize>(
+// As many arrays of this size as there are workers.
+fn arrays<C: Combiner, S: Size>(
     alloc: Global,
-    mapper: &M,
-) -> Result<Rows<M::Key>, Stop<Fault<M::Key>>>
-    requires some { 1 ≤ N }
-    requires few { N ≤ 65536 }
-    ensures { Meets (round_of M.Key.cmp all_inside false R.folded
-        (flat_map (M.task_emissions mapper.now) (range_with_len 0 (M.task_count mapper.now)))) result }
+    count: u32,
+    size: u32,
+) -> Result<Few<ArrayLocal<C, S>>, Memory>
+    requires size { size ≡ S.size }
+    requires some { 1 ≤ size }
+    requires few { size ≤ 65536 }
+    ensures count { IfOk result (λ arrays. length arrays.items ≡ count) }
+    ensures empty { IfOk result (λ arrays. All (λ array. ⟦<ArrayLocal<C, S> as Local>⟧.stands array []) arrays.items) }
 {
-    let local: HashLocal<M::Key, C, N> = HashLocal::new(alloc)?;
-    round::<HashLocal<M::Key, C, N>, M, R>(alloc, mapper, local)
+    let mut arrays = Few::with_room(alloc, count)?;
+    for _ in 0..count {
+        arrays.push(ArrayLocal::new(alloc, size)?);
+    }
+    Ok(arrays)
 }
 
-/// A round in hash tables, which have as many buckets as the job's capacity.
-pub(crate) fn hash_round<M: Mapper, C: Combiner<Value = M::Value>, R: Reducer<C>>(
-    alloc: Global,
+/// A round in hash tables.
+pub(crate) fn hash_round<
+    T: Threads + Sync,
+    G: Gate + Sync,
+    M: Mapper + Sync,
+    C: Combiner<Value = M::Value> + Send + Sync,
+    R: Reducer<C> + Send,
+>(workers: &Workers<T, G>, job: &Job, mapper: &M) -> Result<Round<M::Key>, Stop<Fault<M::Key>>>
+where
+    M::Key: Send + Sync,
+    M::Value: Send,
+    C::Cell: Send + Sync,
+    requires tasks { M.task_count mapper.now ≤ 1048576 }
+    ensures rows { MeetsSeen (λ r. r.rows) (round_of M.Key.cmp all_inside false R.folded
+        (flat_map (M.task_emissions mapper.now) (range_with_len 0 (M.task_count mapper.now)))) result }
+    ensures shares { IfOk result (λ r. IsLawfulRound M.Key.cmp all_inside workers.now.count
+        (M.task_count mapper.now) (M.task_emissions mapper.now) (workers_of r.shares.items)) }
+{
+    let tables = tables::<M::Key, C>(workers.alloc, workers.count())?;
+    run_round::<T, G, HashLocal<M::Key, C, BUCKETS>, M, R>(workers, job, mapper, tables)
+}
+
+// A number that is known as a const.
+fn number<const N: usize>() -> u32
+    requires { N ≤ 65536 }
+    ensures { result ≡ N }
+{
+    N as u32
+}
+
+// The capacity of a job: one of those that are allowed.
+fn size_of(job: &Job) -> u32
+    ensures same { result ≡ job.now.capacity }
+    ensures some { 1 ≤ result }
+    ensures few { result ≤ 65536 }
+{
+    at_capacity!(job.capacity, number<>())
+}
+
+// A round in arrays of a size that the call picks.
+fn in_array<
+    T: Threads + Sync,
+    G: Gate + Sync,
+    M: Mapper<Key = NumKey> + Sync,
+    C: Combiner<Value = M::Value> + Send + Sync,
+    R: Reducer<C> + Send,
+    S: Size + Send + Sync,
+>(
+    workers: &Workers<T, G>,
     job: &Job,
     mapper: &M,
-) -> Result<Rows<M::Key>, Stop<Fault<M::Key>>>
-    ensures { Meets (round_of M.Key.cmp all_inside false R.folded
+    size: u32,
+) -> Result<Round<NumKey>, Stop<Fault<NumKey>>>
+where
+    M::Value: Send,
+    C::Cell: Send + Sync,
+    requires tasks { M.task_count mapper.now ≤ 1048576 }
+    requires size { size ≡ S.size }
+    requires some { 1 ≤ size }
+    requires few { size ≤ 65536 }
+    ensures rows { MeetsSeen (λ r. r.rows) (round_of nat_cmp (below size) false R.folded
         (flat_map (M.task_emissions mapper.now) (range_with_len 0 (M.task_count mapper.now)))) result }
+    ensures shares { IfOk result (λ r. IsLawfulRound nat_cmp (below size) workers.now.count
+        (M.task_count mapper.now) (M.task_emissions mapper.now) (workers_of r.shares.items)) }
 {
-    at_capacity!(job.capacity, in_hash < M, C, R > (alloc, mapper))
+    let arrays = arrays::<C, S>(workers.alloc, workers.count(), size)?;
+    run_round::<T, G, ArrayLocal<C, S>, M, R>(workers, job, mapper, arrays)
+}
+
+/// A round in arrays, which have as many places as the job's capacity.
+fn array_round<
+    T: Threads + Sync,
+    G: Gate + Sync,
+    M: Mapper<Key = NumKey> + Sync,
+    C: Combiner<Value = M::Value> + Send + Sync,
+    R: Reducer<C> + Send,
+>(workers: &Workers<T, G>, job: &Job, mapper: &M) -> Result<Round<NumKey>, Stop<Fault<NumKey>>>
+where
+    M::Value: Send,
+    C::Cell: Send + Sync,
+    requires tasks { M.task_count mapper.now ≤ 1048576 }
+    ensures rows { MeetsSeen (λ r. r.rows) (round_of nat_cmp (below job.now.capacity) false R.folded
+        (flat_map (M.task_emissions mapper.now) (range_with_len 0 (M.task_count mapper.now)))) result }
+    ensures shares { IfOk result (λ r. IsLawfulRound nat_cmp (below job.now.capacity) workers.now.count
+        (M.task_count mapper.now) (M.task_emissions mapper.now) (workers_of r.shares.items)) }
+{
+    in_array::<T, G, M, C, R, Brand>(workers, job, mapper, size_of(job))
+}
+
+/// A round by number keys in the containers of its own that each worker has: hash tables or arrays, as the job says.
+pub(crate) fn number_round<
+    T: Threads + Sync,
+    G: Gate + Sync,
+    M: Mapper<Key = NumKey> + Sync,
+    C: Combiner<Value = M::Value> + Send + Sync,
+    R: Reducer<C> + Send,
+>(workers: &Workers<T, G>, job: &Job, mapper: &M) -> Result<Round<NumKey>, Stop<Fault<NumKey>>>
+where
+    M::Value: Send,
+    C::Cell: Send + Sync,
+    requires tasks { M.task_count mapper.now ≤ 1048576 }
+    requires own { is_shared job.now.container ≡ false }
+    ensures rows { MeetsSeen (λ r. r.rows) (round_of nat_cmp (inside_of job.now.container job.now.capacity) (is_shared job.now.container) R.folded
+        (flat_map (M.task_emissions mapper.now) (range_with_len 0 (M.task_count mapper.now)))) result }
+    ensures shares { IfOk result (λ r. IsLawfulRound nat_cmp (inside_of job.now.container job.now.capacity) workers.now.count
+        (M.task_count mapper.now) (M.task_emissions mapper.now) (workers_of r.shares.items)) }
+{
+    match job.container {
+        ContainerKind::Hash => hash_round::<T, G, M, C, R>(workers, job, mapper),
+        ContainerKind::Array => array_round::<T, G, M, C, R>(workers, job, mapper),
+        ContainerKind::Common => unreachable!(),
+    }
 }

@@ -1,5 +1,5 @@
 -- Stages in a row.
-use Rattle.std.proofs.Common.{◌≡◌, ℕ, ◌≤◌, Some, None, Ok, Err, inl, inr, refl, ap, subst, sym, ◌∙◌, arith}
+use Rattle.std.proofs.Common.{◌≡◌, ℕ, ◌≤◌, Some, None, Ok, Err, inl, inr, refl, ap, subst, ◌∙◌, arith}
 use Rattle.std.specs.declared.option.Option.{Option}
 use Rattle.mr_base.specs.declared.Stop.{Stop}
 use Rattle.mr_base.specs.declared.Stop.TheVariants as stop
@@ -42,7 +42,9 @@ module _ {A B : Type 0} (contents : Option Contents) (part : Stage A) (whole : S
 module _ {A B : Type 0} (contents : Option Contents) (stage : Stage A) (next : A → Stage B) where
   -- what the first stage refuses, both refuse
   pub halts_first : (h : Halt) (before now : ℕ) → Halts h contents stage before now → Halts h contents (followed stage next) before now
-  halts_first h before now is = carried contents stage (followed stage next) (λ content e r given. ap (λ s. passed s (λ a. next a content)) given) h before before now (omega arith) is
+  halts_first h before now is =
+      carried contents stage (followed stage next)
+      (λ content e r given. ap (λ s. passed s (λ a. next a content)) given) h before before now (omega arith) is
 
   module _ (a : A) (passes : ComesTo contents stage (Ok a)) where
     passed_on : (content : Contents) → contents ≡ Some content → followed stage next content ≡ next a content
@@ -55,14 +57,18 @@ module _ {A B : Type 0} (contents : Option Contents) (stage : Stage A) (next : A
       | Some content ↦ λ e h. passed_on content e ∙ h
     ] refl h
 
-    pub halts_next : (h : Halt) (first before now : ℕ) → first ≤ before → Halts h contents (next a) before now → Halts h contents (followed stage next) first now
-    halts_next h first before now le is = carried contents (next a) (followed stage next) (λ content e r given. passed_on content e ∙ given) h first before now le is
+    pub halts_next : (h : Halt) (first before now : ℕ) → first ≤ before → Halts h contents (next a) before now
+        → Halts h contents (followed stage next) first now
+    halts_next h first before now le is =
+        carried contents (next a) (followed stage next) (λ content e r given. passed_on content e ∙ given) h first before now le is
 
 -- a stage that reads nothing
-pub given_comes : {A : Type 0} (contents : Option Contents) (meant ended : Ended A) → meant ≡ ended → ComesTo contents (λ content. meant) ended
+pub given_comes : {A : Type 0} (contents : Option Contents) (meant ended : Ended A) → meant ≡ ended
+    → ComesTo contents (λ content. meant) ended
 given_comes None meant ended e = tt
 given_comes (Some content) meant ended e = e
 
-pub given_halts : {A B : Type 0} (contents : Option Contents) (see : B → A) (meant : Ended A) (s : Stop Refusal) (before now : ℕ) → MeetsSeen see meant (Err s) → Halts (halt_of s) contents (λ content. meant) before now
+pub given_halts : {A B : Type 0} (contents : Option Contents) (see : B → A) (meant : Ended A) (s : Stop Refusal) (before now : ℕ)
+    → MeetsSeen see meant (Err s) → Halts (halt_of s) contents (λ content. meant) before now
 given_halts contents see meant (stop.Refused r) before now e = given_comes contents meant (Err r) e
 given_halts contents see meant stop.Memory before now e = tt

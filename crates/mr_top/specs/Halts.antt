@@ -80,3 +80,9 @@ abbrev pub HasJobStatus : {B : Type 0} → Result B (Stop Refusal) → Type 0
 HasJobStatus (Ok b) = Unit {0}
 HasJobStatus (Err (stop.Refused r)) = r.status ≡ status.Job
 HasJobStatus (Err stop.Memory) = Unit {0}
+
+-- a refusal has the status of inputs or of a job file
+abbrev pub HasLateStatus : {B : Type 0} → Result B (Stop Refusal) → Type 0
+HasLateStatus (Ok b) = Unit {0}
+HasLateStatus (Err (stop.Refused r)) = IsTrue (is_of_inputs r.status) ⊎ (r.status ≡ status.Job)
+HasLateStatus (Err stop.Memory) = Unit {0}

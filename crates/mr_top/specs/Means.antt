@@ -1,5 +1,5 @@
 -- What stands after a run.
-use Rattle.std.specs.Prelude.{◌≡◌, ◌⊎◌, ℕ, Bool, true, List, length, codes, Option, Some, None}
+use Rattle.std.specs.Prelude.{◌≡◌, ◌⊎◌, ℕ, Bool, true, false, List, length, codes, Option, Some, None}
 use Rattle.std.specs.Io.KnownBytes.{Appends, Keeps}
 use Rattle.mr_base.specs.declared.status.Status.{Status}
 use Rattle.mr_base.specs.declared.status.Status.TheVariants as status
@@ -7,6 +7,8 @@ use Rattle.mr_items.specs.FaultLines.{fault_line}
 use Rattle.mr_outside.specs.Count.{Rose}
 use Rattle.mr_outside.specs.Sink.{AppendsPart}
 use Rattle.mr_jobs.specs.Ending.{done, refused}
+use Rattle.mr_items.specs.Report.{Work, report_text}
+use Rattle.mr_top.specs.Reports.{IsOfWords, reports}
 use Rattle.mr_top.specs.RunEnding.{run_ending}
 use Rattle.mr_top.specs.Stages.{Contents, ComesTo}
 
@@ -17,7 +19,8 @@ IsRefusal s contents words old new = ((line : List ℕ) × ComesTo contents (run
 -- after each status: how the run ends, where contents are told, and what the output gained
 abbrev pub Means : Status → Option Contents → List (List ℕ) → Option (List ℕ) → Option (List ℕ) → Type 0
 Means status.Done contents words old new = (bytes : List ℕ) × ComesTo contents (run_ending words) (done bytes) × Appends old new bytes
-Means status.WriteFault contents words old new = (bytes : List ℕ) × ComesTo contents (run_ending words) (done bytes) × AppendsPart old new bytes
+Means status.WriteFault contents words old new =
+    (bytes : List ℕ) × ComesTo contents (run_ending words) (done bytes) × AppendsPart old new bytes
 Means status.ReadFault contents words old new = Keeps old new
 Means status.Memory contents words old new = Keeps old new
 Means status.Usage contents words old new = IsRefusal status.Usage contents words old new
@@ -33,11 +36,18 @@ Says line old new before now = Appends old new line ⊎ (AppendsPart old new lin
 
 -- the line of the refusal by which the run ends was written
 abbrev pub SaysEnding : Status → Option Contents → List (List ℕ) → Option (List ℕ) → Option (List ℕ) → ℕ → ℕ → Type 0
-SaysEnding s contents words old new before now = (line : List ℕ) × ComesTo contents (run_ending words) (refused s line) × Says line old new before now
+SaysEnding s contents words old new before now =
+    (line : List ℕ) × ComesTo contents (run_ending words) (refused s line) × Says line old new before now
+
+-- after Done: the report, where the words ask for one
+abbrev pub TellsDone : Bool → Option Contents → List (List ℕ) → Option (List ℕ) → Option (List ℕ) → ℕ → ℕ → Type 0
+TellsDone false contents words old new before now = Keeps old new
+TellsDone true contents words old new before now =
+    (rounds : List (List Work)) × IsOfWords contents words rounds × Says (report_text rounds) old new before now
 
 -- after each status: what the error output gained
 abbrev pub Tells : Status → Option Contents → List (List ℕ) → Option (List ℕ) → Option (List ℕ) → ℕ → ℕ → Type 0
-Tells status.Done contents words old new before now = Keeps old new
+Tells status.Done contents words old new before now = TellsDone (reports words) contents words old new before now
 Tells status.WriteFault contents words old new before now = Says (fault_line (codes "write")) old new before now
 Tells status.ReadFault contents words old new before now = Says (fault_line (codes "read")) old new before now
 Tells status.Memory contents words old new before now = Says (fault_line (codes "memory")) old new before now

@@ -1,26 +1,29 @@
 -- How a run ends, as a function of its words and of the contents by name.
-use Rattle.std.specs.Prelude.{ℕ, ◌+◌, ◌==◌, nat_lt, if◌then◌else◌, List, [], ◌∷◌, length, codes, Option, Some, None, Ok, Err}
+use Rattle.std.specs.Prelude.{ℕ, ◌+◌, ◌==◌, nat_lt, Bool, true, false, if◌then◌else◌, List, [], ◌∷◌, length, codes, Option, Some, None, Ok, Err}
 use Rattle.std.specs.Option.{option_map_or}
 use Rattle.std.specs.declared.result.Result.{Result}
 use Rattle.mr_base.specs.declared.status.Status.{Status}
 use Rattle.mr_base.specs.declared.status.Status.TheVariants as status
 use Rattle.mr_items.specs.FaultLines.{input_line, inputs_line}
+use Rattle.mr_items.specs.Generator.{generated}
 use Rattle.mr_command.specs.declared.command.Mode.{Mode}
 use Rattle.mr_command.specs.declared.command.Mode.TheVariants as mode
-use Rattle.mr_command.specs.Form.{Form, built_form}
+use Rattle.mr_command.specs.Form.{Form, form}
 use Rattle.mr_capacity.specs.declared.kinds.JobKind.{JobKind}
+use Rattle.mr_capacity.specs.declared.kinds.JobKind.TheVariants as kind
 use Rattle.mr_jobfile.specs.declared.fault.JobFault.{JobFault}
 use Rattle.mr_jobfile.specs.declared.fault.JobFault.TheVariants as fault
 use Rattle.mr_jobfile.specs.FaultText.{job_line}
 use Rattle.mr_jobfile.specs.JobOf.{job_of}
 use Rattle.mr_jobfile.specs.Values.{SeenJob}
+use Rattle.mr_jobs.specs.Generated.{generated_ending}
 use Rattle.mr_jobs.specs.Ending.{Ended, Ending, done, refused, passed}
 use Rattle.mr_jobs.specs.JobEnding.{job_ending, input_limit, inputs_wanted}
 use Rattle.mr_top.specs.Stages.{Contents, Stage, followed, usage, read_fault}
 
 -- what the words ask for
 abbrev pub formed : List (List ℕ) → Stage Form
-formed words content = option_map_or Ok (built_form words) usage
+formed words content = option_map_or Ok (form words) usage
 
 -- these bytes, where they are no more than the limit
 abbrev pub within : ℕ → List ℕ → Option (List ℕ)
@@ -73,14 +76,29 @@ inputs_of kind names = followed (λ content. counted kind (length names)) (λ co
 abbrev pub ran : SeenJob → List (List ℕ) → Stage (List ℕ)
 ran j names = followed (inputs_of j.job names) (λ inputs content. job_ending j inputs)
 
--- to check the job is all, or it runs
-abbrev pub by_mode : Mode → Stage (List ℕ) → Stage (List ℕ)
-by_mode mode.Check running = λ content. done (codes "ok\n")
-by_mode mode.Run running = running
-by_mode mode.Generate running = running
+-- the text that is generated, which no job but the count of words takes
+abbrev pub generated_text : ℕ → ℕ → JobKind → Ended (List ℕ)
+generated_text seed count kind.WordCount = Ok (generated seed count)
+generated_text seed count _ = refused status.Job (job_line fault.Pairing)
+
+-- the job on the text of this seed, with so many words
+abbrev pub generated_run : SeenJob → ℕ → ℕ → Ending
+generated_run j seed count = passed (generated_text seed count j.job) (generated_ending j)
+
+-- to check the job is all, or it runs, on inputs or on a generated text
+abbrev pub by_mode : SeenJob → List (List ℕ) → Mode → Stage (List ℕ)
+by_mode j names mode.Run = ran j names
+by_mode j names mode.Check = λ content. done (codes "ok\n")
+by_mode j names (mode.Generate seed count) = λ content. generated_run j seed count
+
+-- only a job that runs on inputs reads more than its file
+abbrev pub reads_inputs : Mode → Bool
+reads_inputs mode.Run = true
+reads_inputs mode.Check = false
+reads_inputs (mode.Generate seed count) = false
 
 abbrev pub commanded : Form → Stage (List ℕ)
-commanded f = followed (job_at f.job) (λ j. by_mode f.mode (ran j f.inputs))
+commanded f = followed (job_at f.job) (λ j. by_mode j f.inputs f.mode)
 
 unfoldable pub run_ending : List (List ℕ) → Contents → Ending
 run_ending words = followed (formed words) commanded

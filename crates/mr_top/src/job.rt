@@ -18,8 +18,8 @@ use std::alloc::Global;
 // The most bytes of a job file.
 const LIMIT: u64 = 65536;
 
-// The refusal of a job file with this fault.
-fn refused(alloc: Global, fault: &JobFault) -> Result<Refusal, Memory>
+/// The refusal of a job file with this fault.
+pub fn refused(alloc: Global, fault: &JobFault) -> Result<Refusal, Memory>
     ensures fault { IfOk result (λ r. judged (Err fault.now) ≡ Err r) }
     ensures status { IfOk result (λ r. r.status ≡ status.Job) }
 {

@@ -1,4 +1,5 @@
 ghost use Rattle.std.specs.Prelude.{◌≡◌, ◌≤◌, true, is_some, length, IfOk, IfErr, IfSome, Ok};
+ghost use Rattle.mr_jobs.specs.JobEnding.{input_limit};
 ghost use Rattle.mr_top.specs.Halts.{Halts, IsPastJob};
 ghost use Rattle.mr_top.specs.RunEnding.{bytes_at};
 ghost use Rattle.mr_top.specs.Stages.{ComesTo};
@@ -15,7 +16,7 @@ pub fn take_bytes<H: Shelf>(
     name: &str,
     limit: u64,
 ) -> Result<Option<Taken>, Halt>
-    requires { limit ≤ 134217728 }
+    requires { limit ≤ input_limit }
     ensures kept { H.contents shelf.new ≡ H.contents shelf.old }
     ensures later { H.count shelf.old ≤ H.count shelf.new }
     ensures ok { IfOk result (λ read. ComesTo (H.contents shelf.old) (bytes_at name.now limit) (Ok read)) }

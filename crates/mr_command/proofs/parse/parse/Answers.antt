@@ -41,4 +41,8 @@ returns c =
     let words = same_words c.args.words.now in
     let kinds = c.in-Err.ensures.kinds (ap is_simple_and_free app ∙ free) in
     let other : kind_of c.in-Err.error ≡ OutOfMemory → ⊥ = λ e. c.in_default-kind.not-OutOfMemory (c.kind.ensures ∙ e) in
-    record { ok = tt; usage = λ u e. ap (λ (ks : List ErrorKind). length ks == 0) (sym (ap₂ fault_of app words)) ∙ refused c.in-Err.error _ kinds other }
+    record {
+      ok = tt;
+      usage =
+          λ u e. ap (λ (ks : List ErrorKind). length ks == 0) (sym (ap₂ fault_of app words)) ∙ refused c.in-Err.error _ kinds other;
+    }

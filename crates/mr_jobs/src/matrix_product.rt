@@ -1,0 +1,123 @@
+ghost use Rattle.std.specs.Prelude.{◌≡◌, ◌≤◌, ◌*◌, All, IfOk, decimal, false, length, true};
+ghost use Rattle.std.specs.List.{range_with_len};
+ghost use Rattle.std.specs.Ordering.{nat_cmp};
+ghost use Rattle.mr_capacity.specs.Folds.{folded};
+ghost use Rattle.mr_capacity.specs.declared.kinds.JobKind.TheVariants as kind;
+ghost use Rattle.mr_defs.specs.Tasks.{spans_of};
+ghost use Rattle.mr_items.specs.Grid.{columns_of};
+ghost use Rattle.mr_items.specs.MatrixProduct.{is_product_shape, matrix_product_emits, matrix_product_emissions};
+ghost use Rattle.mr_items.specs.Texts.{rows_text};
+ghost use Rattle.mr_jobfile.specs.Seen.{seen};
+ghost use Rattle.mr_jobs.specs.JobEnding.{input_limit, inside_of, is_shared, job_ending, number_keys, product_ending};
+ghost use Rattle.mr_jobs.specs.LawfulReport.{IsLawfulReport};
+ghost use Rattle.mr_jobs.specs.Meets.{IsOfInputs, MeetsSeen};
+ghost use Rattle.mr_jobs.specs.Shares.{AreOnlyRound};
+ghost use Rattle.mr_report.specs.Shown.{rounds_seen};
+
+use crate::input::{grid_input, refused_input};
+use crate::output::{Output, rows_output};
+use crate::refusal::Refusal;
+use crate::round::number_round;
+use crate::workers::Workers;
+use mr_base::Stop;
+use mr_capacity::{CombinerKind, at_combiner};
+use mr_combine::{Combiner, Plain, Reducer, Sum};
+use mr_grid::Grid;
+use mr_jobfile::Job;
+use mr_numeric::Product;
+use mr_outside::{Gate, Taken};
+use mr_split::spans;
+use std::thread::Threads;
+
+// The most elements of a product.
+const MOST_ELEMENTS: u64 = 16777216;
+
+// How many elements the product of two grids of fitting shapes has.
+fn elements(left: &Grid, right: &Grid) -> u64
+    requires { is_product_shape left.now right.now ≡ true }
+    ensures count { result ≡ length left.now * columns_of right.now }
+    ensures few { result ≤ 16777216 }
+{
+    left.rows() * right.columns() as u64
+}
+
+// The product of two grids of fitting shapes, combined so.
+fn multiplied<
+    T: Threads + Sync,
+    G: Gate + Sync,
+    C: Combiner<Value = i64> + Send + Sync,
+    R: Reducer<C> + Send,
+>(workers: &Workers<T, G>, job: &Job, left: &Grid, right: &Grid) -> Result<Output, Stop<Refusal>>
+where
+    C::Cell: Send + Sync,
+    requires own { is_shared job.now.container ≡ false }
+    requires fold { R.folded ≡ folded job.now.combiner job.now.reducer }
+    requires shape { is_product_shape left.now right.now ≡ true }
+    requires few { length right.now ≤ input_limit }
+    requires full { columns_of right.now ≡ 0 → length right.now ≡ 0 }
+    ensures ending { MeetsSeen (λ o. o.text) (number_keys (seen job.now) (rows_text decimal) (matrix_product_emissions left.now right.now)) result }
+    ensures of_inputs { IsOfInputs result }
+    ensures shares { IfOk result (λ o. AreOnlyRound nat_cmp (inside_of job.now.container job.now.capacity) workers.now.count (matrix_product_emits left.now right.now)
+        (range_with_len 0 (length left.now * columns_of right.now)) (spans_of job.now.chunk (length left.now * columns_of right.now)) (rounds_seen o.rounds.items)) }
+{
+    let turned = right.turned(workers.alloc)?;
+    let spans = spans(elements(left, right), job.chunk);
+    let mapper = Product::new(left, &turned, spans);
+    rows_output(
+        workers.alloc,
+        number_round::<T, G, Product, C, R>(workers, job, &mapper),
+    )
+}
+
+// A row of the left grid is as long as a column of the right one, and the product has no more elements than it may have.
+fn fit(left: &Grid, right: &Grid) -> bool
+    requires left { length left.now ≤ input_limit }
+    ensures { result ≡ is_product_shape left.now right.now }
+{
+    left.columns() as u64 == right.rows() && left.rows() * right.columns() as u64 <= MOST_ELEMENTS
+}
+
+// The product of two grids, whose shapes have to fit.
+fn product<T: Threads + Sync, G: Gate + Sync>(
+    workers: &Workers<T, G>,
+    job: &Job,
+    left: &Grid,
+    right: &Grid,
+) -> Result<Output, Stop<Refusal>>
+    requires kind { job.now.job ≡ kind.MatrixProduct }
+    requires left { length left.now ≤ input_limit }
+    requires right { length right.now ≤ input_limit }
+    requires full { columns_of right.now ≡ 0 → length right.now ≡ 0 }
+    ensures ending { MeetsSeen (λ o. o.text) (product_ending (seen job.now) left.now right.now) result }
+    ensures of_inputs { IsOfInputs result }
+    ensures shares { IfOk result (λ o. AreOnlyRound nat_cmp (inside_of job.now.container job.now.capacity) workers.now.count (matrix_product_emits left.now right.now)
+        (range_with_len 0 (length left.now * columns_of right.now)) (spans_of job.now.chunk (length left.now * columns_of right.now)) (rounds_seen o.rounds.items)) }
+{
+    if !fit(left, right) {
+        return Err(Stop::Refused(refused_input(workers.alloc, 2, b"shape")?));
+    }
+    at_combiner!(job.combiner, { Sum }, multiplied[T, G](workers, job, left, right))
+}
+
+/// Runs `matrix_product`: each row of the first grid and each column of the second give an element, by its number row after row.
+pub(crate) fn matrix_product<T: Threads + Sync, G: Gate + Sync>(
+    workers: &Workers<T, G>,
+    job: &Job,
+    inputs: &[Taken],
+) -> Result<Output, Stop<Refusal>>
+    requires kind { job.now.job ≡ kind.MatrixProduct }
+    requires count { length inputs.now ≡ 2 }
+    requires short { All (λ bytes. length bytes ≤ input_limit) inputs.now }
+    ensures ending { MeetsSeen (λ o. o.text) (job_ending (seen job.now) inputs.now) result }
+    ensures of_inputs { IsOfInputs result }
+    ensures shares { IfOk result (λ o. IsLawfulReport (seen job.now) inputs.now workers.now.count (rounds_seen o.rounds.items)) }
+{
+    let left = match grid_input(workers.alloc, inputs, 0) {
+        Ok(left) => left,
+        Err(stop) => return Err(stop),
+    };
+    match grid_input(workers.alloc, inputs, 1) {
+        Ok(right) => product(workers, job, &left, &right),
+        Err(stop) => Err(stop),
+    }
+}

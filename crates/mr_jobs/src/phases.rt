@@ -1,0 +1,185 @@
+ghost use Rattle.std.specs.Prelude.{◌≡◌, ◌≤◌, [], All, IfOk, List, ℕ, false, length, map, flat_map};
+ghost use Rattle.std.specs.Cmp.{IsTotalOrder};
+ghost use Rattle.std.specs.FinMap.{IsAntisymmetric};
+ghost use Rattle.std.specs.List.{IsDistinct, range_with_len};
+ghost use Rattle.std.specs.List.Sorted.{IsPermutation, IsStrictlySortedBy};
+ghost use Rattle.std.specs.Ordering.{eq_by_cmp};
+ghost use Rattle.mr_base.specs.Noting.{noted_of};
+ghost use Rattle.mr_defs.specs.Emission.{Emission};
+ghost use Rattle.mr_defs.specs.Partitions.{concatenated};
+ghost use Rattle.mr_defs.specs.Rounds.{round_of};
+ghost use Rattle.mr_jobs.specs.Meets.{MeetsSeen};
+ghost use Rattle.mr_jobs.specs.Shares.{AreShares, IsLawfulRound};
+ghost use Rattle.mr_phase.specs.Spread.{IsSpreadOf};
+ghost use Rattle.mr_report.specs.Shown.{work_of, workers_of};
+
+use crate::workers::Workers;
+use mr_base::{Fault, Few, Key, Memory, Ranges, Rows, Stop};
+use mr_capacity::QueueKind;
+use mr_combine::{Combiner, Reducer};
+use mr_container::{Mapper, Parted};
+use mr_jobfile::Job;
+use mr_merge::merge_all;
+use mr_outside::Gate;
+use mr_phase::{Hand, Mapped, Reduced, gather, map_phase, reduce_phase};
+use mr_queues::AnyQueues;
+use mr_report::Share;
+use std::alloc::Global;
+use std::thread::Threads;
+
+/// What a round gives: its rows, ascending by key, and what each worker did.
+#[derive(Drop)]
+pub(crate) struct Round<K> {
+    pub(crate) rows: Rows<K>,
+    pub(crate) shares: Few<Share>,
+}
+
+// Maps each task once, into the local of the worker that took it.
+fn map_tasks<
+    T: Threads + Sync,
+    G: Gate + Sync,
+    L: Parted + Send,
+    M: Mapper<Key = L::Key, Value = L::Value> + Sync,
+>(
+    workers: &Workers<T, G>,
+    queue: QueueKind,
+    mapper: &M,
+    locals: Few<L>,
+) -> Result<Mapped<L>, Memory>
+where
+    L::Key: Send,
+    L::Value: Send,
+    requires few { M.task_count mapper.now ≤ 1048576 }
+    requires locals { (length locals.items ≡ workers.now.count) × All (λ local. L.stands local []) locals.items }
+    ensures count { IfOk result (λ hands. length hands ≡ workers.now.count) }
+    ensures once { IfOk result (λ hands. IsPermutation (range_with_len 0 (M.task_count mapper.now)) (flat_map (λ h. h.tasks.items) hands)) }
+    ensures stands { IfOk result (λ hands. All (λ h. L.stands h.local (flat_map (M.task_emissions mapper.now) h.tasks.items)) hands) }
+{
+    let ranges = Ranges::even(workers.alloc, mapper.tasks(), workers.count())?;
+    let (queues, passes) = AnyQueues::of(workers.alloc, queue, &ranges)?;
+    map_phase(
+        workers.rt,
+        workers.alloc,
+        queues,
+        passes,
+        locals,
+        mapper,
+        workers.gate,
+    )
+}
+
+// Reduces what the locals hold: one worker to one list, and several by partitions, each to a list of its own. The locals are freed.
+fn reduce_cells<T: Threads + Sync, G, L: Parted + Send + Sync, R: Reducer<L::Fold> + Send>(
+    workers: &Workers<T, G>,
+    job: &Job,
+    mut mapped: Mapped<L>,
+) -> Result<Reduced<L::Key>, Memory>
+where
+    L::Key: Send,
+    L::Value: Send,
+    L::Fold: Send,
+    <L::Fold as Combiner>::Cell: Send,
+    ensures ascend { IfOk result (λ r. All (λ list. IsStrictlySortedBy L.Key.cmp (map (λ row. row.0) list)) r.lists.items) }
+    ensures differ { IfOk result (λ r. IsDistinct (eq_by_cmp L.Key.cmp) (map (λ row. row.0) (concatenated r.lists.items))) }
+    ensures tasks { IfOk result (λ r. (pairs : ℕ → List (Emission L.Key L.Value)) (all : List ℕ)
+        → All (λ h. L.stands h.local (flat_map pairs h.tasks.items)) mapped → IsPermutation all (flat_map (λ h. h.tasks.items) mapped)
+        → IsSpreadOf L.Key.cmp L.inside R.folded r.lists.items (noted_of r.faults) (flat_map pairs all)) }
+{
+    if workers.count() == 1 {
+        return gather::<L, R>(workers.alloc, &mapped);
+    }
+    mapped.arrange(workers.rt, workers.alloc, job.partitions);
+    let ranges = Ranges::even(workers.alloc, job.partitions, workers.count())?;
+    let (queues, passes) = AnyQueues::of(workers.alloc, job.queue, &ranges)?;
+    reduce_phase::<T, AnyQueues, L, R>(
+        workers.rt,
+        workers.alloc,
+        queues,
+        passes,
+        job.partitions,
+        &mapped,
+    )
+}
+
+// The same tasks once more.
+fn copied(alloc: Global, tasks: &[u32]) -> Result<Few<u32>, Memory>
+    ensures { IfOk result (λ copy. copy.items ≡ tasks.now) }
+{
+    let mut copy = Few::with_room(alloc, 0)?;
+    for task in tasks {
+        copy.room()?;
+        copy.push(*task);
+    }
+    Ok(copy)
+}
+
+// What a worker did.
+fn share_of<L: Parted>(alloc: Global, hand: &Hand<L>) -> Result<Share, Memory>
+    ensures { IfOk result (λ share. work_of share ≡ (hand.now.tasks.items, L.cell_count hand.now.local)) }
+{
+    let tasks = copied(alloc, hand.tasks.as_slice())?;
+    let cells = hand.cells();
+    Ok(Share { tasks, cells })
+}
+
+// What each worker did.
+fn shares_of<L: Parted>(alloc: Global, mapped: &Mapped<L>) -> Result<Few<Share>, Memory>
+    ensures seen { IfOk result (λ shares. workers_of shares.items ≡ map (λ h. (h.tasks.items, L.cell_count h.local)) mapped.now) }
+    ensures cells { IfOk result (λ shares. (emits : ℕ → List (Emission L.Key L.Value)) → All (λ h. L.stands h.local (flat_map emits h.tasks.items)) mapped.now
+        → AreShares L.Key.cmp L.inside emits (workers_of shares.items)) }
+{
+    let mut shares = Few::with_room(alloc, 0)?;
+    for worker in 0..mapped.len() {
+        let share = share_of(alloc, mapped.hand(worker))?;
+        shares.room()?;
+        shares.push(share);
+    }
+    Ok(shares)
+}
+
+// Carries what is known of the order of keys as clauses.
+fn keys_are_ordered<K: Key>()
+    ensures total { IsTotalOrder K.cmp }
+    ensures one { IsAntisymmetric K.cmp }
+{}
+
+/// One round over these locals, one for each worker, which stand for no emission yet: the rows of what all tasks emit, or the first fault of that.
+/// Each worker runs in a thread of its own where one can be made.
+///
+/// This is the one place where tasks are mapped and cells reduced.
+pub(crate) fn run_round<
+    T: Threads + Sync,
+    G: Gate + Sync,
+    L: Parted + Send + Sync,
+    M: Mapper<Key = L::Key, Value = L::Value> + Sync,
+    R: Reducer<L::Fold> + Send,
+>(
+    workers: &Workers<T, G>,
+    job: &Job,
+    mapper: &M,
+    locals: Few<L>,
+) -> Result<Round<L::Key>, Stop<Fault<L::Key>>>
+where
+    L::Key: Send,
+    L::Value: Send,
+    L::Fold: Send,
+    <L::Fold as Combiner>::Cell: Send,
+    requires few { M.task_count mapper.now ≤ 1048576 }
+    requires locals { (length locals.items ≡ workers.now.count) × All (λ local. L.stands local []) locals.items }
+    ensures rows { MeetsSeen (λ r. r.rows) (round_of L.Key.cmp L.inside false R.folded
+        (flat_map (M.task_emissions mapper.now) (range_with_len 0 (M.task_count mapper.now)))) result }
+    ensures shares { IfOk result (λ r. IsLawfulRound L.Key.cmp L.inside workers.now.count
+        (M.task_count mapper.now) (M.task_emissions mapper.now) (workers_of r.shares.items)) }
+{
+    keys_are_ordered::<L::Key>();
+    let mapped = map_tasks::<T, G, L, M>(workers, job.queue, mapper, locals)?;
+    let shares = shares_of(workers.alloc, &mapped)?;
+    let Reduced { lists, faults } = reduce_cells::<T, G, L, R>(workers, job, mapped)?;
+    match faults.first() {
+        Some(fault) => Err(Stop::Refused(fault)),
+        None => Ok(Round {
+            rows: merge_all(workers.rt, workers.alloc, lists)?,
+            shares,
+        }),
+    }
+}

@@ -1,0 +1,103 @@
+use crate::gates::NotingGate;
+use crate::tests::{WORDS, ran};
+use mr_base::{Memory, Status, Text};
+use std::alloc::Global;
+use std::test::Fail;
+
+// The report of two workers whose calls are noted, where each of the tasks 0 and 2 has a word and the other two have none.
+fn noted_report(alloc: Global, gate: &NotingGate) -> Result<Text, Memory> {
+    let mut lines = Text::new(alloc);
+    for worker in 0..2u64 {
+        let mut tasks = Text::new(alloc);
+        let mut cells = 0u64;
+        for call in 1..5u64 {
+            if let Some(task) = gate.began(call, worker) {
+                tasks.push(b" ")?;
+                tasks.push_natural(task as u64)?;
+                cells = if task % 2 == 0 { cells % 4 + 1 } else { cells };
+            }
+        }
+        lines.push(b"round 1 worker ")?;
+        lines.push_natural(worker)?;
+        lines.push(b" cells ")?;
+        lines.push_natural(cells)?;
+        lines.push(b" tasks")?;
+        lines.push(tasks.as_bytes())?;
+        lines.push(b"\n")?;
+    }
+    Ok(lines)
+}
+
+#[test]
+fn reports_name_what_each_worker_did(rt: HostRuntime) -> Result<(), Fail> {
+    let alloc = rt.alloc();
+    for (queue, holds) in [("blocks", false), ("ranges", true), ("deques", true)] {
+        let job = format!(in alloc; "{WORDS}chunk = 1\nqueue = \"{queue}\"\n")?;
+        let gate = NotingGate::new(holds);
+        let words = ["mapred", "--workers", "2", "--report", "W", "in"];
+        let (status, _, err) = ran(&rt, alloc, job.as_str(), "a b ", &words, &gate)?;
+        assert!(rt; status == Status::Done, "{queue}");
+        let wanted = noted_report(alloc, &gate)?;
+        assert!(rt; err.bytes() == wanted.as_bytes(), "{queue}");
+        let apart = gate.note(0) % 64 != gate.note(1) % 64;
+        assert!(rt; apart || !holds, "{queue}");
+    }
+    Ok(())
+}
+
+#[test]
+fn reports_of_runs(rt: HostRuntime) -> Result<(), Fail> {
+    let alloc = rt.alloc();
+    let cases: [(&str, &[&str], &str); 4] = [
+        (
+            "aa bb",
+            &["mapred", "--report", "W", "in"],
+            "round 1 worker 0 cells 2 tasks 0 1 2\n",
+        ),
+        (
+            "aa bb",
+            &["mapred", "--workers", "2", "--report", "W", "in"],
+            "round 1 worker 0 cells 1 tasks 0\nround 1 worker 1 cells 1 tasks 1 2\n",
+        ),
+        (
+            "",
+            &["mapred", "--workers", "2", "--report", "W", "in"],
+            "round 1 worker 0 cells 0 tasks\nround 1 worker 1 cells 0 tasks\n",
+        ),
+        (
+            "",
+            &["mapred", "--report", "--mode=generate", "W", "0", "1"],
+            "round 1 worker 0 cells 1 tasks 0 1\n",
+        ),
+    ];
+    let job = format!(in alloc; "{WORDS}chunk = 1\nqueue = \"blocks\"\n")?;
+    for (input, words, lines) in cases {
+        let gate = NotingGate::new(false);
+        let (status, _, err) = ran(&rt, alloc, job.as_str(), input, words, &gate)?;
+        assert!(rt; status == Status::Done, "{words:?}");
+        assert!(rt; err.bytes() == lines.as_bytes(), "{words:?}");
+    }
+    Ok(())
+}
+
+#[test]
+fn long_generated_text(rt: HostRuntime) -> Result<(), Fail> {
+    let alloc = rt.alloc();
+    for workers in ["1", "8", "32"] {
+        let words = [
+            "mapred",
+            "--workers",
+            workers,
+            "--mode",
+            "generate",
+            "W",
+            "0",
+            "1000000",
+        ];
+        let (status, out, _) = ran(&rt, alloc, WORDS, "", &words, &NotingGate::new(false))?;
+        assert!(rt; status == Status::Done);
+        let lines = b"input 5777761\nrows 5000\noutput 48890\nmark 62777834934\n";
+        assert!(rt; out.bytes() == lines.as_slice(), "{workers}");
+    }
+    Ok(())
+}
