@@ -1,5 +1,9 @@
-pub mod Merging
-pub mod Pairs
+pub mod Cuts
 pub mod Ends
-pub mod Leads
 pub mod Entries
+pub mod Leads
+pub mod Order
+pub mod Plans
+pub mod Rungs
+pub mod Runs
+pub mod Taking

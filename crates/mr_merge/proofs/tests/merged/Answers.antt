@@ -9,12 +9,14 @@ use Rattle.mr_defs.specs.Partitions.{concatenated}
 use Rattle.mr_merge.proofs.tests.merged.Goals as goal
 
 -- lists of one row, or of none
-module _ {K A : Type 0} (R : K → K → Ordering) (x y : K × A) (lists : List (List (K × A))) (are : lists ≡ (x ∷ []) ∷ [] ∷ (y ∷ []) ∷ []) where
+module _ {K A : Type 0} (R : K → K → Ordering) (x y : K × A) (lists : List (List (K × A)))
+    (are : lists ≡ (x ∷ []) ∷ [] ∷ (y ∷ []) ∷ []) where
   each_ascends : All (λ list. IsStrictlySortedBy R (map (λ row. row.0) list)) lists
   unfolding IsStrictlySortedBy
   each_ascends =
       let P : List (K × A) → Type 0 = λ list. IsStrictlySortedBy R (map (λ row. row.0) list) in
-      subst (All P) (sym are) (All-cons P (x ∷ []) ([] ∷ (y ∷ []) ∷ []) (tt, tt) (All-cons P [] ((y ∷ []) ∷ []) tt (All-cons P (y ∷ []) [] (tt, tt) (All-nil P))))
+      subst (All P) (sym are) (All-cons P (x ∷ []) ([] ∷ (y ∷ []) ∷ []) (tt, tt)
+      (All-cons P [] ((y ∷ []) ∷ []) tt (All-cons P (y ∷ []) [] (tt, tt) (All-nil P))))
 
   all_differ : eq_by_cmp R x.0 y.0 ≡ false → IsDistinct (eq_by_cmp R) (map (λ row. row.0) (concatenated lists))
   unfolding IsDistinct
