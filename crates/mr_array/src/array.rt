@@ -122,6 +122,7 @@ impl<C: Combiner, S: Size> Local for ArrayLocal<C, S> {
 
     ghost origin_trans = { λ _ _ _ _ _. tt };
 
+    #[inline(always)]
     fn emit(&mut self, key: NumKey, value: C::Value) -> Result<(), Memory> {
         if key.0 >= self.size as u64 {
             keep_lesser(&mut self.faults.outside, Some(key));

@@ -9,3 +9,6 @@ pub mod Rows
 pub mod Earliest
 pub mod Turned
 pub mod Whole
+pub mod Front
+pub mod Goes
+pub mod Weights

@@ -1,5 +1,6 @@
 -- Fields of a line, from a place on.
-use Rattle.std.specs.Prelude.{ℕ, ◌+◌, ℤ, Bool, not, is_none, if◌then◌else◌, List, drop, find, filter_map, Option, Some, None}
+use Rattle.std.specs.Prelude.{◌≡◌, ◌≤◌, ℕ, ◌+◌, ℤ, Bool, false, not, length, take, slice_index_or, is_none, if◌then◌else◌, List, drop, find, filter_map, Option, Some, None}
+use Rattle.std.specs.Char.{is_ascii_digit}
 use Rattle.std.specs.Str.Parse.{digits_value}
 use Rattle.std.specs.List.{prefix_len}
 use Rattle.mr_items.specs.Grid.{element_of}
@@ -25,3 +26,9 @@ stray_of line = find (λ field. is_none (element_of (run_at is_field_byte line f
 
 abbrev pub elements_in : List ℕ → List ℤ
 elements_in line = filter_map element_of (runs is_field_byte line)
+
+-- a text that begins with a line, behind which no digit follows
+pub record Continues (line rest : List ℕ) : Type 0 where
+  pub within : length line ≤ length rest
+  pub front : take (length line) rest ≡ line
+  pub ends : is_ascii_digit (slice_index_or rest (length line) 0) ≡ false

@@ -2,7 +2,7 @@ ghost use Rattle.std.specs.Prelude.{◌≡◌, ◌≤◌, ◌++◌, min, length,
 ghost use Rattle.std.specs.Option.{option_or, option_to_list};
 ghost use Rattle.mr_items.specs.Lines.{is_field_byte, without_return};
 ghost use Rattle.mr_items.specs.Runs.{run_places};
-ghost use Rattle.mr_grid.specs.Fields.{elements_in, stray_of};
+ghost use Rattle.mr_grid.specs.Fields.{Continues, elements_in, stray_of};
 
 use crate::field::{field_at, run_end};
 use mr_base::Memory;
@@ -47,9 +47,10 @@ fn keep(
     }
 }
 
-/// Reads the fields of a line up to the first that is one too many, and puts its elements last.
+/// Reads the fields of a line, whose text goes on as `rest`, up to the first that is one too many, and puts its elements last.
 #[inline(always)]
-pub fn read_fields(line: &[u8], numbers: &mut Vec<i32>) -> Result<Line, Memory>
+pub fn read_fields(line: &[u8], rest: &[u8], numbers: &mut Vec<i32>) -> Result<Line, Memory>
+    requires { Continues line.now rest.now }
     ensures fields { IfOk result (λ l. l.fields ≡ min (length (run_places is_field_byte line.now)) 1025) }
     ensures stray { IfOk result (λ l. l.fields ≤ 1024 → l.stray ≡ stray_of line.now) }
     ensures numbers { IfOk result (λ l. l.fields ≤ 1024 → numbers.new.items ≡ numbers.old.items ++ elements_in line.now) }
@@ -58,7 +59,7 @@ pub fn read_fields(line: &[u8], numbers: &mut Vec<i32>) -> Result<Line, Memory>
     let mut fields = 0;
     let mut stray = None;
     while at < line.len() && fields <= WIDEST {
-        let field = field_at(line, at);
+        let field = field_at(line, rest, at);
         stray = keep(numbers, field.element, at, stray)?;
         fields += 1;
         at = run_end(line, field.end, false);

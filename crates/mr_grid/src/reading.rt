@@ -63,7 +63,7 @@ fn read_line(draft: &mut Draft, bytes: &[u8], at: usize) -> Result<usize, Stop<G
 {
     let whole = line_from(bytes, at);
     let next = (at + whole.len() + 1).min(bytes.len());
-    let line = read_fields(line_without_return(whole), &mut draft.numbers)?;
+    let line = read_fields(line_without_return(whole), &bytes[at..], &mut draft.numbers)?;
     if line.fields == 0 {
         return Ok(next);
     }

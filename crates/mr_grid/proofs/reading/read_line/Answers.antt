@@ -1,8 +1,11 @@
-use Rattle.std.proofs.Common.{◌≡◌, ◌<◌, ◌+◌, ◌++◌, min, length, Some, refl, sym, ap, ◌∙◌, arith, append-nil, rules}
+use Rattle.std.proofs.Common.{◌≡◌, ◌<◌, ◌+◌, ◌++◌, min, length, Some, refl, sym, ap, ◌∙◌, arith, append-nil, rules, take, ◌-◌, drop, subst}
 use Rattle.std.proofs.lemmas.Bool.{le-ltb}
 use Rattle.mr_items.specs.Lines.{fields, is_field_byte, line_at, without_return}
 use Rattle.mr_items.specs.Runs.{run_places}
 use Rattle.mr_grid.specs.Fields.{elements_in}
+use Rattle.std.proofs.lemmas.List.{take_rest}
+use Rattle.mr_grid.specs.Fields.{Continues}
+use Rattle.mr_grid.proofs.Goes.{goes_on}
 use Rattle.mr_grid.proofs.Faults.{stray_below, without_return_short, elements_none, count_is}
 use Rattle.mr_grid.proofs.Judged.{has, fault_is, sound_width}
 use Rattle.mr_grid.proofs.Rows.{passed_over, added, refused, rows_few, line_within}
@@ -58,3 +61,10 @@ returns-clause-read c =
     let width = sound_width bytes at c.requires.inside draft.numbers.items draft.rows draft.columns c.requires.before c.line_without_return.result.now line c.in_ok-line.line.fields c.columns_with-columns.result c.if-line-eq0.false c.in_ok-line.ensures.fields c.columns_with-columns.ensures sound in
     added bytes at (at + length (line_at bytes at)) c.min-next.result c.requires.inside (c.requires.before.begins c.requires.inside) refl (c.min-next.ensures ∙ ap (λ l. min (at + length l + 1) (length bytes)) whole)
     draft.numbers.items draft.rows draft.columns c.requires.before some sound _ _ (c.in_ok-line.ensures.numbers width.0 ∙ ap (λ l. draft.numbers.items ++ elements_in l) line) width.1
+
+pub read_fields-requires : goal.read_fields-requires
+read_fields-requires c =
+    let bytes = c.args.bytes.now in
+    let at = c.args.at in
+    let line : c.line_without_return.result.now ≡ without_return (line_at bytes at) = c.line_without_return.ensures ∙ ap without_return c.line_from-whole.ensures in
+    subst (λ l. Continues l (take (length bytes - at) (drop at bytes))) (sym line) (subst (Continues (without_return (line_at bytes at))) (sym (take_rest bytes at)) (goes_on bytes at))

@@ -3,7 +3,7 @@ use Rattle.std.specs.Char.{is_ascii_digit}
 use Rattle.std.specs.List.{prefix_len}
 use Rattle.mr_items.specs.Runs.{run_at}
 use Rattle.mr_grid.proofs.Digits.{capped}
-use Rattle.mr_grid.proofs.field.digits_at.Given as goal
+use Rattle.mr_grid.proofs.field.digits_one_by_one.Given as goal
 
 abbrev pub invariant-loop-at : goal.invariant-loop-at
 invariant-loop-at l = record {
