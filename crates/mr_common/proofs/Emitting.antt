@@ -1,5 +1,5 @@
 -- What a local over the array changes when one emission comes, so that it stands for one more.
-use Rattle.std.proofs.Common.{◌≡◌, ℕ, ◌+◌, ◌<◌, ◌≤◌, nat_lt, Bool, true, false, true≢false, not, cond, if◌then◌else◌, IsTrue, All, Contains, count_by, List, [], ◌∷◌, ◌++◌, length, length-append, slice_index_or, Option, Some, None, refl, sym, ap, ◌∙◌, arith, append-nil}
+use Rattle.std.proofs.Common.{◌≡◌, ℕ, ◌+◌, ◌<◌, ◌≤◌, nat_lt, Bool, true, false, true≢false, cond, if◌then◌else◌, IsTrue, All, Contains, count_by, List, [], ◌∷◌, ◌++◌, length, length-append, slice_index_or, Option, Some, None, refl, sym, ap, ◌∙◌, arith}
 use Rattle.std.specs.List.{cons_option}
 use Rattle.std.specs.declared.cmp.Ordering.{Ordering}
 use Rattle.std.specs.Ordering.{eq_by_cmp, nat_cmp}
@@ -12,7 +12,7 @@ use Rattle.mr_defs.specs.Commutative.{IsCommutative, joined}
 use Rattle.mr_defs.specs.CommutativeLaws.{joined_by-push}
 use Rattle.mr_defs.specs.Emission.{Emission, Pair, TooLarge, Malformed}
 use Rattle.mr_defs.specs.Faulty.{Noted}
-use Rattle.mr_defs.specs.Keyed.{at, value_at, least, lesser}
+use Rattle.mr_defs.specs.Keyed.{at, value_at, lesser}
 use Rattle.mr_defs.specs.Rows.{cells_of}
 use Rattle.mr_defs.specs.Stands.{IsNotedOf, StandsFor, SharesFor, cell_of}
 use Rattle.mr_defs.proofs.Lesser.{lesser_commutative}

@@ -1,5 +1,5 @@
 -- The words that are not empty, as pairs, and as rows.
-use Rattle.std.proofs.Common.{◌≡◌, ◌≢◌, ℕ, ℤ, zero, suc, ◌+◌, ◌<◌, ◌≤◌, ◌==◌, true, false, cond, nat_lt, All, Contains, List, [], ◌∷◌, ◌++◌, map, length, slice_index, slice_index_or, refl, sym, ap, ◌∙◌, arith, add-one, append-nil, subst}
+use Rattle.std.proofs.Common.{◌≡◌, ◌≢◌, ℕ, ℤ, zero, suc, ◌+◌, ◌<◌, ◌≤◌, ◌==◌, true, false, cond, nat_lt, All, Contains, List, [], ◌∷◌, ◌++◌, map, slice_index, slice_index_or, refl, sym, ap, ◌∙◌, arith, add-one, append-nil, subst}
 use Rattle.std.specs.List.{AllByRecursion}
 use Rattle.std.specs.List.Sorted.{IsPermutation, IsStrictlySortedBy}
 use Rattle.std.specs.declared.cmp.Ordering.TheVariants.{Less}
@@ -7,7 +7,7 @@ use Rattle.std.specs.Ordering.{nat_cmp}
 use Rattle.std.specs.Int.{cast_signed}
 use Rattle.std.proofs.lemmas.Bool.Decides.{nat_tests}
 use Rattle.std.proofs.lemmas.List.{map-append}
-use Rattle.std.proofs.lemmas.List.Elements.{All-push, All-contains}
+use Rattle.std.proofs.lemmas.List.Elements.{All-push}
 use Rattle.std.proofs.lemmas.List.Sorted.{IsPermutation-map}
 use mathlib.Core.Option.{some, some-injective, some-ne-none}
 use mathlib.Core.Logic.{dite}
@@ -18,7 +18,7 @@ use Rattle.mr_base.specs.Tasks.{times, IsApartBelow}
 use Rattle.mr_base.proofs.Bridge.{permuted}
 use Rattle.mr_common.specs.declared.view.View.{View}
 use Rattle.mr_common.specs.Lawful.{EMPTY, view, keys, IsHeld, IsFull}
-use Rattle.mr_common.specs.Passes.{pairs_to, row_of}
+use Rattle.mr_common.specs.Passes.{pairs_to}
 use Rattle.mr_common.proofs.Steps.{times-keys_push}
 
 -- one more pair was won

@@ -1,10 +1,10 @@
 -- What a local over the array stands for, it stands for in any order.
-use Rattle.std.specs.Prelude.{◌≡◌, ℕ, Bool, List, length}
+use Rattle.std.specs.Prelude.{ℕ, Bool, List}
 use Rattle.std.specs.List.Sorted.{IsPermutation}
 use Rattle.std.specs.declared.cmp.Ordering.{Ordering}
 use Rattle.std.specs.Cmp.{IsTotalOrder}
 use Rattle.std.specs.FinMap.{IsAntisymmetric}
-use Rattle.std.proofs.Common.{sym, ◌∙◌, slice_index_or}
+use Rattle.std.proofs.Common.{◌∙◌, slice_index_or}
 use Rattle.std.proofs.lemmas.List.Sorted.{Contains-permutation, length_permutation}
 use Rattle.mr_defs.specs.Emission.{Emission, Pair}
 use Rattle.mr_defs.specs.Faulty.{Noted}

@@ -11,12 +11,12 @@ ghost use Rattle.mr_common.specs.Passes.{IsPassOf, ArePassesOf, IsUnused, pairs_
 use crate::common::{CommonArray, CommonPass, Emitted};
 use crate::rule::FirstWins;
 use crate::step::{NOTHING, cut_off, exchange, join, word_of};
-use crate::view::{Size, View};
+use crate::view::{Extent, View};
 use atomic_table::{Closed, Table};
 use mr_base::{Answer, Few, Memory, NumKey, Rows};
 use std::alloc::Global;
 
-type Words = Table<u8, View, Size, FirstWins, Global>;
+type Words = Table<u8, View, Extent, FirstWins, Global>;
 
 // So many words that hold nothing.
 fn empty_words(alloc: Global, count: usize) -> Result<Vec<u64>, Memory>
@@ -30,31 +30,36 @@ fn empty_words(alloc: Global, count: usize) -> Result<Vec<u64>, Memory>
     Ok(words)
 }
 
-fn whole<const N: usize>(table: Words) -> CommonArray<N>
-    requires words { (table.shared.table_id.words ≡ N) × (table.shared.table_id.slots ≡ 0) × (table.shared.key.words ≡ N) }
-    requires few { (0 < N) × (N ≤ 65536) }
-    ensures { result.table ≡ table }
+fn whole(table: Words, size: u32) -> CommonArray
+    requires words { (table.shared.table_id.words ≡ size) × (table.shared.table_id.slots ≡ 0) × (table.shared.key.words ≡ size) }
+    requires few { (0 < size) × (size ≤ 65536) }
+    ensures { (result.table ≡ table) × (result.size ≡ size) }
 {
-    CommonArray { table }
+    CommonArray { table, size }
 }
 
-impl<const N: usize> CommonArray<N> {
-    /// All words are empty, and no pass has won or was refused anything. There are 1 to 32 passes.
-    pub fn new(alloc: Global, passes: u32) -> Result<(CommonArray<N>, Few<CommonPass>), Memory>
+impl CommonArray {
+    /// An array of this size, from 1 to 65536. All words are empty, and no pass has won or was refused anything. There are 1 to 32 passes.
+    pub fn new(
+        alloc: Global,
+        size: u32,
+        passes: u32,
+    ) -> Result<(CommonArray, Few<CommonPass>), Memory>
         requires passes { (0 < passes) × (passes ≤ 32) }
-        requires words { (0 < N) × (N ≤ 65536) }
+        requires words { (0 < size) × (size ≤ 65536) }
+        ensures size { IfOk result (λ r. r.0.size ≡ size) }
         ensures count { IfOk result (λ r. (length r.1.items ≡ passes) × (r.0.table.shared.key.passes ≡ passes)) }
-        ensures passes { IfOk result (λ r. ArePassesOf r.0.table.shared.table_id N r.1.items) }
+        ensures passes { IfOk result (λ r. ArePassesOf r.0.table.shared.table_id size r.1.items) }
         ensures unused { IfOk result (λ r. All IsUnused r.1.items) }
     {
-        let words = empty_words(alloc, N)?;
+        let words = empty_words(alloc, size as usize)?;
         let mut all = Few::with_room(alloc, passes)?;
-        let size = Size {
-            words: N as u64,
+        let extent = Extent {
+            words: u64::from(size),
             passes: u64::from(passes),
         };
-        let (table, mut seat) = Words::of_words(alloc, words.as_slice(), &size)?;
-        let array = whole(table);
+        let (table, mut seat) = Words::of_words(alloc, words.as_slice(), &extent)?;
+        let array = whole(table, size);
         for _ in 0..passes - 1 {
             let own = cut_off(&array.table.shared, &mut seat);
             all.push(CommonPass { seat: own });
@@ -63,18 +68,18 @@ impl<const N: usize> CommonArray<N> {
         Ok((array, all))
     }
 
-    /// Emits a pair. `Outside` comes exactly where the key is N or more, and changes nothing. Else one exchange of the key's word decides: the first pair of a
+    /// Emits a pair. `Outside` comes exactly where the key isn't below the size, and changes nothing. Else one exchange of the key's word decides: the first pair of a
     /// key is won, and a later one is refused. Takes no memory and waits for nobody.
     pub fn emit(&self, pass: &mut CommonPass, key: u64, value: i64) -> Emitted
-        requires pass { IsPassOf self.now.table.shared.table_id N pass.old }
+        requires pass { IsPassOf self.now.table.shared.table_id self.now.size pass.old }
         requires value { value ≢ negsuc 9223372036854775807 }
-        ensures same { IsPassOf self.now.table.shared.table_id N pass.new × (pass.new.seat.id ≡ pass.old.seat.id) }
+        ensures same { IsPassOf self.now.table.shared.table_id self.now.size pass.new × (pass.new.seat.id ≡ pass.old.seat.id) }
         ensures won { result ≡ Won → (won pass.new ≡ won pass.old ++ (key, value) ∷ []) × (refused pass.new ≡ refused pass.old) }
         ensures twice { result ≡ Twice → (won pass.new ≡ won pass.old) × (refused pass.new ≡ refused pass.old ++ key ∷ []) }
-        ensures outside { (result ≡ Outside) ↔ (N ≤ key) }
+        ensures outside { (result ≡ Outside) ↔ (self.now.size ≤ key) }
         ensures unchanged { result ≡ Outside → pass.new ≡ pass.old }
     {
-        if key >= N as u64 {
+        if key >= self.size as u64 {
             return Emitted::Outside;
         }
         if exchange(
@@ -95,13 +100,13 @@ impl<const N: usize> CommonArray<N> {
     pub fn finish(self, alloc: Global, mut passes: Few<CommonPass>) -> Result<Rows<NumKey>, Memory>
         requires count { length passes.items ≡ self.table.shared.key.passes }
         requires some { 0 < length passes.items }
-        requires passes { ArePassesOf self.table.shared.table_id N passes.items }
+        requires passes { ArePassesOf self.table.shared.table_id self.size passes.items }
         ensures ascending { IfOk result (λ rows. IsStrictlySortedBy nat_cmp (map (λ row. row.0) rows)) }
         ensures rows { IfOk result (λ rows. IsPermutation (map row_of (flat_map won passes.items)) rows) }
         ensures differ { IfOk result (λ _. IsDistinct (eq_by_cmp nat_cmp) (keys (flat_map won passes.items))) }
         ensures refused { IfOk result (λ _. All (Contains (keys (flat_map won passes.items))) (flat_map refused passes.items)) }
     {
-        let mut rows = Vec::with_capacity(alloc, N)?;
+        let mut rows = Vec::with_capacity(alloc, self.size as usize)?;
         let Some(first) = passes.pop() else {
             unreachable!()
         };
@@ -109,9 +114,9 @@ impl<const N: usize> CommonArray<N> {
         while let Some(next) = passes.pop() {
             join(&self.table.shared, &mut seat, next.seat);
         }
-        let CommonArray { table } = self;
+        let CommonArray { table, size } = self;
         let closed = table.close_with(seat);
-        read_rows(&closed, &mut rows, N);
+        read_rows(&closed, &mut rows, size as usize);
         closed.free();
         Ok(Rows::from_entries(rows))
     }

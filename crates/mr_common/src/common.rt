@@ -1,16 +1,17 @@
 ghost use Rattle.std.specs.Prelude.{◌≡◌, ◌<◌, ◌≤◌};
 
 use crate::rule::FirstWins;
-use crate::view::{Size, View};
+use crate::view::{Extent, View};
 use atomic_table::{Seat, Table};
 use std::alloc::Global;
 
-/// N words that all workers share, one for each key below N, where N is from 1 to 65536. A word is empty or has the value that came first.
+/// Words that all workers share, one for each key below a size from 1 to 65536. A word is empty or has the value that came first.
 #[derive(Drop)]
-pub struct CommonArray<const N: usize> {
-    pub(crate) table: Table<u8, View, Size, FirstWins, Global>,
-    ghost words: { (table.shared.table_id.words ≡ N) × (table.shared.table_id.slots ≡ 0) × (table.shared.key.words ≡ N) },
-    ghost few: { (0 < N) × (N ≤ 65536) },
+pub struct CommonArray {
+    pub(crate) table: Table<u8, View, Extent, FirstWins, Global>,
+    pub(crate) size: u32,
+    ghost words: { (table.shared.table_id.words ≡ size) × (table.shared.table_id.slots ≡ 0) × (table.shared.key.words ≡ size) },
+    ghost few: { (0 < size) × (size ≤ 65536) },
 }
 
 /// The right of one worker to emit. Contracts see the pairs that it won and the keys that it was refused.

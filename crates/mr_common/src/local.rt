@@ -14,12 +14,12 @@ use crate::common_local::CommonLocal;
 use mr_base::{Faults, Memory, NumKey, keep_lesser};
 use mr_container::Local;
 
-impl<'a, const N: usize> CommonLocal<'a, N> {
+impl<'a> CommonLocal<'a> {
     /// A local that stands for no emission, by a pass that has emitted nothing. Takes no memory.
-    pub fn new(array: &'a CommonArray<N>, pass: CommonPass) -> CommonLocal<'a, N>
-        requires pass { IsPassOf array.now.table.shared.table_id N pass }
+    pub fn new(array: &'a CommonArray, pass: CommonPass) -> CommonLocal<'a>
+        requires pass { IsPassOf array.now.table.shared.table_id array.now.size pass }
         requires unused { IsUnused pass }
-        ensures empty { ⟦<CommonLocal<'a, N> as Local>⟧.stands result [] }
+        ensures empty { ⟦<CommonLocal<'a> as Local>⟧.stands result [] }
         ensures origin { (result.array.now ≡ array.now) × (result.pass ≡ pass) }
     {
         CommonLocal {
@@ -33,20 +33,20 @@ impl<'a, const N: usize> CommonLocal<'a, N> {
     /// Gives back the pass and the faults. Takes no memory.
     pub fn leave(self) -> (CommonPass, Faults<NumKey>)
         ensures left { (result.0 ≡ self.entry.pass) × (result.1 ≡ self.entry.faults) }
-        ensures of { IsPassOf self.entry.array.now.table.shared.table_id N result.0 }
-        ensures shares { (es : List (Emission ℕ ℤ)) → ⟦<CommonLocal<'a, N> as Local>⟧.stands self.entry es
-            → SharesFor nat_cmp (λ k. nat_lt k N) (won result.0) (refused result.0) (length (won result.0)) (noted_of result.1) es }
+        ensures of { IsPassOf self.entry.array.now.table.shared.table_id self.entry.array.now.size result.0 }
+        ensures shares { (es : List (Emission ℕ ℤ)) → ⟦<CommonLocal<'a> as Local>⟧.stands self.entry es
+            → SharesFor nat_cmp (λ k. nat_lt k self.entry.array.now.size) (won result.0) (refused result.0) (length (won result.0)) (noted_of result.1) es }
     {
         (self.pass, self.faults)
     }
 }
 
-impl<'a, const N: usize> Local for CommonLocal<'a, N> {
+impl<'a> Local for CommonLocal<'a> {
     type Key = NumKey;
 
     type Value = i64;
 
-    ghost stands = { λ s es. SharesFor ⟦<NumKey as Ord>⟧.cmp (λ k. nat_lt k N) (won s.pass) (refused s.pass) s.cells (noted_of s.faults) es };
+    ghost stands = { λ s es. SharesFor ⟦<NumKey as Ord>⟧.cmp (λ k. nat_lt k s.array.now.size) (won s.pass) (refused s.pass) s.cells (noted_of s.faults) es };
 
     ghost noted = { λ s. noted_of s.faults };
 
@@ -58,12 +58,12 @@ impl<'a, const N: usize> Local for CommonLocal<'a, N> {
 
     ghost spares = { λ _ _. true };
 
-    ghost any_order = { λ s es fs p h. shares_in_any_order nat_cmp_total nat_cmp-IsAntisymmetric (λ k. nat_lt k N) _ _ _ _ es fs p h };
+    ghost any_order = { λ s es fs p h. shares_in_any_order nat_cmp_total nat_cmp-IsAntisymmetric (λ k. nat_lt k s.array.now.size) _ _ _ _ es fs p h };
 
     ghost same_refl = { λ _. refl };
 
     ghost same_keeps = { λ s t e. (
-      (λ es h. subst (λ l. SharesFor ⟦<NumKey as Ord>⟧.cmp (λ k. nat_lt k N) (won l.pass) (refused l.pass) l.cells (noted_of l.faults) es) (sym e) h),
+      (λ es h. subst (λ l. SharesFor ⟦<NumKey as Ord>⟧.cmp (λ k. nat_lt k l.array.now.size) (won l.pass) (refused l.pass) l.cells (noted_of l.faults) es) (sym e) h),
       ap (λ l. noted_of l.faults) e,
       ap (λ l. l.cells) e,
       λ _. refl,
@@ -83,7 +83,7 @@ impl<'a, const N: usize> Local for CommonLocal<'a, N> {
     }
 
     fn too_large(&mut self, key: NumKey) {
-        if key.0 < N as u64 {
+        if key.0 < self.array.size as u64 {
             keep_lesser(&mut self.faults.over, Some(key));
         } else {
             keep_lesser(&mut self.faults.outside, Some(key));

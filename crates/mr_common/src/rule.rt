@@ -1,16 +1,16 @@
 //! The rule of the shared words, and the kinds of step under it. README.md of this crate explains both.
-use crate::view::{Size, View};
+use crate::view::{Extent, View};
 use atomic_table::{Join, Play, Split, TableRule};
 
 pub struct FirstWins;
 
-impl TableRule<u8, View, Size> for FirstWins {
+impl TableRule<u8, View, Extent> for FirstWins {
     ghost use Rattle.std.specs.Prelude.{[]};
     ghost use Rattle.mr_common.specs.Lawful.{IsLawful, view};
 
-    ghost holds = { λ size s. IsLawful size.words size.passes s.words s.views };
+    ghost holds = { λ extent s. IsLawful extent.words extent.passes s.words s.views };
 
-    ghost first = { λ size. view size.passes [] [] };
+    ghost first = { λ extent. view extent.passes [] [] };
 }
 
 // One exchange: the pair is won, or its key is refused.

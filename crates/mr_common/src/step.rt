@@ -6,10 +6,10 @@ ghost use Rattle.mr_base.specs.Tasks.{times};
 ghost use Rattle.mr_common.specs.Lawful.{view, keys, EMPTY};
 
 use crate::rule::{Deal, Exchange, FirstWins};
-use crate::view::{Size, View};
+use crate::view::{Extent, View};
 use atomic_table::{Seat, Shared};
 
-pub(crate) type Words = Shared<u8, View, Size, FirstWins>;
+pub(crate) type Words = Shared<u8, View, Extent, FirstWins>;
 
 pub(crate) type Emitter = Seat<u8, View>;
 

@@ -9,7 +9,7 @@ pub struct View {
 
 // How many words and passes an array has.
 #[derive(Drop)]
-pub struct Size {
+pub struct Extent {
     pub words: u64,
     pub passes: u64,
 }

@@ -18,7 +18,7 @@ use Rattle.mr_defs.specs.Keyed.{at, value_at, any_key, large_key, malformed_offs
 use Rattle.mr_defs.specs.Partitions.{concatenated}
 use Rattle.mr_defs.specs.Rows.{cells_of}
 use Rattle.mr_defs.specs.Faulty.{Noted}
-use Rattle.mr_defs.specs.Stands.{StandsFor, cell_of}
+use Rattle.mr_defs.specs.Stands.{IsNotedOf, StandsFor, cell_of}
 use Rattle.mr_defs.proofs.Lesser.{lesser_commutative}
 use Rattle.mr_defs.proofs.Readings.{passing, malformed_read, outside_read, large_read}
 use Rattle.mr_container.specs.Laws.{any_order}
@@ -29,7 +29,7 @@ use Rattle.mr_phase.specs.Spread.{IsSpreadOf, noted_all}
 use Rattle.mr_phase.proofs.Partitions.{AreParts, together}
 
 -- what is read off each, joined, is read off all that they have
-joined_flat : {A X E : Type 0} {op : A → A → A} → IsCommutative op → (g : E → Option A) (read : X → Option A) (es_of : X → List E) (xs : List X) → AllByRecursion (λ x. read x ≡ joined_by op g (es_of x)) xs → joined_by op read xs ≡ joined_by op g (flat_map es_of xs)
+pub joined_flat : {A X E : Type 0} {op : A → A → A} → IsCommutative op → (g : E → Option A) (read : X → Option A) (es_of : X → List E) (xs : List X) → AllByRecursion (λ x. read x ≡ joined_by op g (es_of x)) xs → joined_by op read xs ≡ joined_by op g (flat_map es_of xs)
 joined_flat laws g read es_of [] h = refl
 joined_flat {op = op} laws g read es_of (x ∷ xs) h = ap (λ a. joined op a (joined_by op read xs)) h.0 ∙ ap (joined op (joined_by op g (es_of x))) (joined_flat laws g read es_of xs h.1) ∙ sym (joined_by-append laws g (es_of x) (flat_map es_of xs))
 
@@ -44,6 +44,21 @@ none_joined op read (x ∷ xs) h = ap (λ a. joined op a (joined_by op read xs))
 pub by_recursion : {X : Type 0} (P : X → Type 0) (xs : List X) → All P xs → AllByRecursion P xs
 by_recursion P [] h = tt
 by_recursion P (x ∷ xs) h = (All-head P x xs h, by_recursion P xs (All-tail P x xs h))
+
+-- the faults of all
+module _ {K V X : Type 0} {R : K → K → Ordering} (o : IsTotalOrder R) (one : IsAntisymmetric R) (inside : K → Bool) (noted : X → Noted K) (es_of : X → List (Emission K V)) where
+  abbrev Notes : X → Type 0
+  Notes x = IsNotedOf R inside (noted x) (es_of x)
+
+  pub whole_noted : (xs : List X) → AllByRecursion Notes xs → IsNotedOf R inside (noted_all R noted xs) (flat_map es_of xs)
+  whole_noted xs h = record {
+    malformed = joined_flat (lesser_commutative nat_cmp_total nat_cmp-IsAntisymmetric) malformed_offset (λ x. (noted x).malformed) es_of xs
+        (each_map Notes (λ x. (noted x).malformed ≡ joined_by (lesser nat_cmp) malformed_offset (es_of x)) (λ x s. s.malformed ∙ sym (malformed_read R inside (es_of x))) xs h) ∙ malformed_read R inside (flat_map es_of xs);
+    outside = joined_flat (lesser_commutative o one) (λ e. passing (λ k. not (inside k)) (any_key e)) (λ x. (noted x).outside) es_of xs
+        (each_map Notes (λ x. (noted x).outside ≡ joined_by (lesser R) (λ e. passing (λ k. not (inside k)) (any_key e)) (es_of x)) (λ x s. s.outside ∙ sym (outside_read R inside (es_of x))) xs h) ∙ outside_read R inside (flat_map es_of xs);
+    over = joined_flat (lesser_commutative o one) (λ e. passing inside (large_key e)) (λ x. (noted x).over) es_of xs
+        (each_map Notes (λ x. (noted x).over ≡ joined_by (lesser R) (λ e. passing inside (large_key e)) (es_of x)) (λ x s. s.over ∙ sym (large_read R inside (es_of x))) xs h) ∙ large_read R inside (flat_map es_of xs);
+  }
 
 both_same : {A : Type 0} (b : Bool) (x : A) → x ≡ (if b then x else x)
 both_same true x = refl
@@ -69,14 +84,7 @@ module _ {K V C X : Type 0} {R : K → K → Ordering} (o : IsTotalOrder R) (one
   whole_stands xs h = record {
     each = whole_each xs h;
     count = refl;
-    faults = record {
-      malformed = joined_flat (lesser_commutative nat_cmp_total nat_cmp-IsAntisymmetric) malformed_offset (λ x. (noted x).malformed) es_of xs
-          (each_map Stands (λ x. (noted x).malformed ≡ joined_by (lesser nat_cmp) malformed_offset (es_of x)) (λ x s. s.faults.malformed ∙ sym (malformed_read R inside (es_of x))) xs h) ∙ malformed_read R inside (flat_map es_of xs);
-      outside = joined_flat (lesser_commutative o one) (λ e. passing (λ k. not (inside k)) (any_key e)) (λ x. (noted x).outside) es_of xs
-          (each_map Stands (λ x. (noted x).outside ≡ joined_by (lesser R) (λ e. passing (λ k. not (inside k)) (any_key e)) (es_of x)) (λ x s. s.faults.outside ∙ sym (outside_read R inside (es_of x))) xs h) ∙ outside_read R inside (flat_map es_of xs);
-      over = joined_flat (lesser_commutative o one) (λ e. passing inside (large_key e)) (λ x. (noted x).over) es_of xs
-          (each_map Stands (λ x. (noted x).over ≡ joined_by (lesser R) (λ e. passing inside (large_key e)) (es_of x)) (λ x s. s.faults.over ∙ sym (large_read R inside (es_of x))) xs h) ∙ large_read R inside (flat_map es_of xs);
-    };
+    faults = whole_noted o one inside noted es_of xs (each_map Stands (λ x. IsNotedOf R inside (noted x) (es_of x)) (λ x s. s.faults) xs h);
     twice = none_joined (lesser R) (λ x. (noted x).twice) xs (each_map Stands (λ x. (noted x).twice ≡ None) (λ x s. s.twice) xs h);
   }
 

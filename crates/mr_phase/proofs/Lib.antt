@@ -13,3 +13,7 @@ pub mod Sharing
 pub mod Packing
 pub mod Ordering
 pub mod Kept
+pub mod Members
+pub mod Winning
+pub mod Leaving
+pub mod CommonEnd

@@ -28,7 +28,7 @@ module _ {K : Type 0} (R : K → K → Ordering) where
   where_key-marked p (k ∷ ks) = elim (p k) as (λ t. cond t ((k, tt) ∷ where_key R p (marked ks)) (where_key R p (marked ks)) ≡ marked (cond t (k ∷ filter p ks) (filter p ks))) [ true ↦ ap (λ l. (k, tt) ∷ l) (where_key-marked p ks) | false ↦ where_key-marked p ks ]
 
   -- keys that ascend are the same where the same keys stand in them
-  same_keys : (o : IsTotalOrder R) (one : IsAntisymmetric R) (ks ls : List K) → T (is_sorted R (marked ks)) → T (is_sorted R (marked ls)) → ((q : K) → list_any (eq_by_cmp R q) ks ≡ list_any (eq_by_cmp R q) ls) → ks ≡ ls
+  pub same_keys : (o : IsTotalOrder R) (one : IsAntisymmetric R) (ks ls : List K) → T (is_sorted R (marked ks)) → T (is_sorted R (marked ls)) → ((q : K) → list_any (eq_by_cmp R q) ks ≡ list_any (eq_by_cmp R q) ls) → ks ≡ ls
   same_keys o one ks ls g h same =
       sym (unmarked ks)
       ∙ ap (map (λ e. e.0)) (same_entries R o one (marked ks) (marked ls) g h (λ q. find-marked q ks ∙ ap (λ t. if t then Some tt else None) (same q) ∙ sym (find-marked q ls)))
@@ -57,6 +57,11 @@ module _ {K C : Type 0} (R : K → K → Ordering) where
   sorted_marked [] h = tt
   sorted_marked (e ∷ es) h = both _ _ (below_marked e.0 es (both_first _ _ h)) (sorted_marked es (both_second _ _ h))
 
+-- the keys inside ascend
+module _ {K V : Type 0} {R : K → K → Ordering} (o : IsTotalOrder R) (inside : K → Bool) where
+  pub keys_inside_sorted : (es : List (Emission K V)) → T (is_sorted R (marked (keys_inside R inside es)))
+  keys_inside_sorted es = subst (λ l. T (is_sorted R l)) (where_key-marked R inside (keys R es)) (is_sorted-where_key R inside (marked (keys R es)) (ascending_sorted R o (filter_map pair_key es)))
+
 is_some-if : {C : Type 0} (b : Bool) (x : Option C) → is_some (if b then x else None) ≡ (b && is_some x)
 is_some-if true x = refl
 is_some-if false x = refl
@@ -64,7 +69,7 @@ is_some-if false x = refl
 module _ {K V C : Type 0} {R : K → K → Ordering} (o : IsTotalOrder R) (one : IsAntisymmetric R) (inside : K → Bool) (unit : V → C) (merged : C → C → C) (entries : List (K × C)) (sorted : T (is_sorted R entries)) (es : List (Emission K V)) (found : (k : K) → find R k entries ≡ (if inside k then cell_of unit merged (at R es k) else None)) where
   pub keys_are : map (λ e. e.0) entries ≡ keys_inside R inside es
   keys_are = same_keys R o one (map (λ e. e.0) entries) (keys_inside R inside es) (sorted_marked R entries sorted)
-      (subst (λ l. T (is_sorted R l)) (where_key-marked R inside (keys R es)) (is_sorted-where_key R inside (marked (keys R es)) (ascending_sorted R o (filter_map pair_key es))))
+      (keys_inside_sorted o inside es)
       (λ q. sym (is_some-find R q entries)
       ∙ ap is_some (found q)
       ∙ is_some-if (inside q) (cell_of unit merged (at R es q))

@@ -2,7 +2,8 @@
 //!
 //! Workers on threads take tasks from their queues until these are empty (`map_phase`); each keeps its tasks and its local, its hand. Then they
 //! take the partitions of the keys (`reduce_phase`), or the calling thread reduces all keys by itself (`gather`): the cells of a key are
-//! merged over all hands, and each that is not over becomes a row.
+//! merged over all hands, and each that is not over becomes a row. `common_phase` maps into one array that all workers share; there is nothing to
+//! reduce.
 //!
 //! Its promise: the rows and the faults are those of all that the tasks emit, whichever worker took which task, and whichever queue, container,
 //! combiner and reducer the job has.
@@ -11,6 +12,7 @@
 mod ahead;
 mod blocks;
 mod calling;
+mod common;
 mod entries;
 mod hands;
 mod map;
@@ -25,6 +27,7 @@ mod together;
 
 pub use blocks::{BlockPass, Blocks};
 pub use calling::gather;
+pub use common::{CommonDone, CommonHand, common_phase};
 pub use hands::Hand;
 pub use map::map_phase;
 pub use mapped::Mapped;

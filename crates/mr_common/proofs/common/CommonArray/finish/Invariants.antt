@@ -3,8 +3,8 @@ use Rattle.mr_common.proofs.Gathering.{Gathers}
 use Rattle.mr_common.proofs.common.CommonArray.finish.Given as goal
 
 abbrev pub invariant-loop-next : goal.invariant-loop-next
-invariant-loop-next g l = Gathers l.self.table.shared.table_id g.row.N l.self.table.shared.key.passes l.seat l.passes.items l.fn.passes.items
-    × (l.rows.items ≡ []) × (vec_len l.rows ≡ 0) × (g.row.N ≤ vec_capacity l.rows)
+invariant-loop-next l = Gathers l.self.table.shared.table_id l.self.size l.self.table.shared.key.passes l.seat l.passes.items l.fn.passes.items
+    × (l.rows.items ≡ []) × (vec_len l.rows ≡ 0) × (l.self.size ≤ vec_capacity l.rows)
 
 abbrev pub decreases-loop-next : goal.decreases-loop-next
-decreases-loop-next g l = length l.passes.items
+decreases-loop-next l = length l.passes.items
