@@ -33,6 +33,16 @@ module _ {E : Type 0} (f : ℕ → List E) (a : ℕ) where
       meets : a + (m - a) ≡ m
       meets = omega (arith, from)
 
+  -- up to an item, that item, and what is behind it
+  pub emitted-split : (m b : ℕ) → a ≤ m → m < b → (emitted m ++ f m) ++ flat_map f (range_with_len (m + 1) (b - (m + 1))) ≡ emitted b
+  emitted-split m b from below =
+      append_assoc (emitted m) (f m) (flat_map f (range_with_len (m + 1) (b - (m + 1))))
+      ∙ sym (flat_map-append f (range_with_len a (m - a)) (m ∷ range_with_len (m + 1) (b - (m + 1))))
+      ∙ ap (flat_map f) (sym (numbers-split m b from below))
+
+  pub emitted-none : emitted a ≡ []
+  emitted-none = let none : a - a ≡ 0 = omega arith in ap (λ n. flat_map f (range_with_len a n)) none
+
   -- P of what was emitted before, followed by what the items emit
   module _ (P : List E → Type 0) (es : List E) where
     pub at_first : P es → P (es ++ emitted a)

@@ -4,7 +4,7 @@ use Rattle.std.specs.Prelude.{filter, flat_map}
 use Rattle.std.specs.List.{AllByRecursion, range_with_len}
 use Rattle.mr_defs.specs.Tasks.{Stretch, items_in, task_emissions}
 
-all_numbers : (P : ℕ → Type 0) (a n : ℕ) → ((k : ℕ) → k < a + n → P k) → AllByRecursion P (range_with_len a n)
+pub all_numbers : (P : ℕ → Type 0) (a n : ℕ) → ((k : ℕ) → k < a + n → P k) → AllByRecursion P (range_with_len a n)
 all_numbers P a zero h = tt
 all_numbers P a (suc n) h = (h a (omega arith), all_numbers P (a + 1) n (λ k below. h k (omega (arith, below))))
 
@@ -17,7 +17,7 @@ all_of_some P q (x ∷ xs) h = by (q x) (all_of_some P q xs h.1)
     by false rest = rest
 
 module _ {E : Type 0} (f g : ℕ → List E) where
-  flat_map-same : (xs : List ℕ) → AllByRecursion (λ k. f k ≡ g k) xs → flat_map f xs ≡ flat_map g xs
+  pub flat_map-same : (xs : List ℕ) → AllByRecursion (λ k. f k ≡ g k) xs → flat_map f xs ≡ flat_map g xs
   flat_map-same [] h = refl
   flat_map-same (x ∷ xs) h = ap₂ (λ l r. l ++ r) h.0 (flat_map-same xs h.1)
 

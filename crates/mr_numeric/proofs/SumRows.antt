@@ -1,11 +1,11 @@
 -- The rows of a round whose folds are sums.
-use Rattle.std.proofs.Common.{◌≡◌, ◌≤◌, ◌<◌, ◌+◌, ◌*◌, ℕ, ℤ, pos, nat_abs, Bool, true, false, cond, List, [], ◌∷◌, length, Option, Some, None, refl, arith}
-use Rattle.std.specs.Prelude.{nat_le, get_or, option_map, IfSome}
+use Rattle.std.proofs.Common.{◌≡◌, ℕ, ℤ, pos, Bool, true, false, cond, List, [], ◌∷◌, Option, Some, None, refl, arith}
+use Rattle.std.specs.Prelude.{nat_le, option_map, IfSome}
 use Rattle.std.specs.List.{All, filter_map, cons_option}
 use Rattle.std.specs.Ordering.{nat_cmp}
 use Rattle.std.proofs.lemmas.Bool.{leb-true}
 use Rattle.std.proofs.lemmas.List.Elements.{All-cons, All-nil}
-use Rattle.mr_defs.specs.Emission.{Emission, Row}
+use Rattle.mr_defs.specs.Emission.{Emission}
 use Rattle.mr_defs.specs.Folded.{limit, magnitude, total, sum_folded}
 use Rattle.mr_defs.specs.Keyed.{at, keys_inside}
 use Rattle.mr_defs.specs.Rows.{rows_of}
@@ -13,7 +13,7 @@ use Rattle.mr_numeric.proofs.SumsOf.{sum_small}
 use Rattle.mr_numeric.specs.Sums.{IsSum, AreSums}
 
 module _ {X Y : Type 0} (P : Y → Type 0) (f : X → Option Y) where
-  with_one : (o : Option Y) (ys : List Y) → IfSome o P → All P ys → All P (cons_option o ys)
+  pub with_one : (o : Option Y) (ys : List Y) → IfSome o P → All P ys → All P (cons_option o ys)
   with_one None ys h rest = rest
   with_one (Some y) ys h rest = All-cons P y ys h rest
 

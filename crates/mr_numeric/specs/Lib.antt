@@ -2,3 +2,5 @@ pub mod Pairs
 pub mod Sums
 pub mod Grids
 pub mod Couples
+pub mod Distances
+pub mod Narrow

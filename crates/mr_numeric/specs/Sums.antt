@@ -1,5 +1,5 @@
 -- Rows of sums.
-use Rattle.std.specs.Prelude.{◌≡◌, ◌≤◌, ◌*◌, ◌≤ℤ◌, ℕ, pos, nat_abs, List, length, get_or}
+use Rattle.std.specs.Prelude.{◌≡◌, ◌≤◌, ◌+◌, ◌*◌, ◌≤ℤ◌, ℕ, ℤ, pos, nat_abs, List, length, get_or}
 use Rattle.std.specs.List.{All}
 use Rattle.mr_defs.specs.Emission.{Row}
 use Rattle.mr_defs.specs.Folded.{limit}
@@ -18,7 +18,17 @@ pub record IsColumnSum (points : ℕ) (row : Row ℕ) : Type 0 where
   pub some : 1 ≤ points
   pub small : nat_abs (get_or row.1 0 (pos 0)) ≤ 2147483647 * points
 
--- the answer is the number of points of a cluster, which has one or more, and then sums that so many points can have
-pub record IsCluster (row : Row ℕ) : Type 0 where
-  pub some : pos 1 ≤ℤ get_or row.1 0 (pos 0)
+-- a number of means, each of so many coordinates, whose magnitude is at most 2147483647
+pub record AreMeans (columns : ℕ) (means : List (List ℤ)) : Type 0 where
+  pub each : All (λ m. length m ≡ columns) means
+  pub small : All (All (λ z. nat_abs z ≤ 2147483647)) means
+
+-- the answer of a cluster begins with the number of its points, which is one or more
+abbrev pub HasPoints : Row ℕ → Type 0
+HasPoints row = pos 1 ≤ℤ get_or row.1 0 (pos 0)
+
+-- it goes on with the sum of each of so many coordinates, of a magnitude that so many points of a grid can add up to
+pub record IsCluster (columns : ℕ) (row : Row ℕ) : Type 0 where
+  pub some : HasPoints row
+  pub long : length row.1 ≡ columns + 1
   pub small : All (λ z. nat_abs z ≤ 2147483647 * nat_abs (get_or row.1 0 (pos 0))) row.1

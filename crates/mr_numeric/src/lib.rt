@@ -8,9 +8,17 @@
 //! text is that of the definition.
 #![tactic(auto)]
 
+mod cluster_lines;
+#[cfg(test)]
+mod cluster_tests;
 mod columns;
+mod distance;
 mod histogram;
+mod means;
 mod means_of_columns;
+mod narrow;
+mod nearest;
+mod new_means;
 mod pairs;
 mod pca_lines;
 mod product;
@@ -22,9 +30,13 @@ mod sums;
 #[cfg(test)]
 mod tests;
 
+pub use cluster_lines::kmeans_text;
 pub use columns::{ColumnSums, Columns};
 pub use histogram::{Histogram, PixelRows};
+pub use means::Means;
 pub use means_of_columns::{ColumnMeans, column_means};
+pub use nearest::{Clustered, KMeans};
+pub use new_means::next_means;
 pub use pca_lines::pca_text;
 pub use product::{Product, RowPairs};
 pub use regression::{Points, Regression};

@@ -1,11 +1,11 @@
-ghost use Rattle.std.specs.Prelude.{◌≤◌, ◌<◌, ◌-◌, ◌++◌, ◌≡◌, pos, length, flat_map, slice_index_or, IfOk, OnOk};
+ghost use Rattle.std.specs.Prelude.{◌≤◌, ◌<◌, ◌*◌, ◌++◌, ◌≡◌, pos, length, get_or, flat_map, slice_index_or, IfOk, OnOk};
 ghost use Rattle.std.specs.List.{enumerate_from, range_with_len};
 ghost use Rattle.mr_items.specs.Pca as items;
 ghost use Rattle.mr_numeric.specs.Couples.{column_lines, couple_names, couple_text};
 ghost use Rattle.mr_numeric.specs.Sums.{AreSums};
 
 use crate::means_of_columns::ColumnMeans;
-use crate::sums::sum_at;
+use crate::sums::sums_below;
 use mr_base::{Memory, NumKey, Rows, Text};
 use std::alloc::Global;
 
@@ -25,7 +25,8 @@ pub fn pca_text(
     let mut text = Text::new(alloc);
     let each = means.as_slice();
     push_means(&mut text, each)?;
-    push_columns(&mut text, points, each.len(), rows)?;
+    let sums = sums_below(alloc, rows, each.len() * each.len())?;
+    push_columns(&mut text, points, each.len(), &sums)?;
     Ok(text)
 }
 
@@ -52,18 +53,14 @@ fn push_mean(text: &mut Text, means: &[i32], column: usize) -> Result<(), Memory
 }
 
 /// Appends the lines of each column with itself and each later one.
-fn push_columns(
-    text: &mut Text,
-    points: u64,
-    columns: usize,
-    rows: &Rows<NumKey>,
-) -> Result<(), Memory>
-    requires sums { AreSums rows.now }
+fn push_columns(text: &mut Text, points: u64, columns: usize, sums: &[i128]) -> Result<(), Memory>
+    requires sums { length sums.now ≡ columns * columns }
     requires few { columns ≤ 1024 }
-    ensures { OnOk result (text.new ≡ text.old ++ flat_map (column_lines points columns rows.now) (range_with_len 0 columns)) }
+    ensures { OnOk result (text.new ≡ text.old
+        ++ flat_map (column_lines points columns (λ k. get_or sums.now k (pos 0))) (range_with_len 0 columns)) }
 {
     for i in 0..columns {
-        push_couples(text, points, columns, rows, i)?;
+        push_couples(text, points, columns, sums, i)?;
     }
     Ok(())
 }
@@ -73,17 +70,16 @@ fn push_couples(
     text: &mut Text,
     points: u64,
     columns: usize,
-    rows: &Rows<NumKey>,
+    sums: &[i128],
     i: usize,
 ) -> Result<(), Memory>
-    requires sums { AreSums rows.now }
+    requires sums { length sums.now ≡ columns * columns }
     requires few { columns ≤ 1024 }
     requires i { i < columns }
-    ensures { OnOk result (text.new ≡ text.old ++ column_lines points columns rows.now i) }
+    ensures { OnOk result (text.new ≡ text.old ++ column_lines points columns (λ k. get_or sums.now k (pos 0)) i) }
 {
     for j in i..columns {
-        let sum = sum_at(rows, (i * columns + j) as u64);
-        push_couple(text, i, j, sum, points)?;
+        push_couple(text, i, j, sums[i * columns + j], points)?;
     }
     Ok(())
 }

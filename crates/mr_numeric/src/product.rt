@@ -1,18 +1,20 @@
-ghost use Rattle.std.specs.Prelude.{◌≡◌, ◌≤◌, ◌*◌, ℕ, ℤ, List, length, flat_map, slice_index_or};
+ghost use Rattle.std.specs.Prelude.{◌≡◌, ◌≤◌, ◌<◌, ◌*◌, true, ℕ, ℤ, List, IfSome, length, nat_abs, flat_map, slice_index_or};
 ghost use Rattle.std.specs.List.{range_with_len};
+ghost use Rattle.mr_defs.specs.Folded.{limit};
 ghost use Rattle.mr_defs.specs.Tasks as tasks;
 ghost use Rattle.mr_items.specs.Grid.{columns_of};
 ghost use Rattle.mr_items.specs.MatrixProduct.{matrix_product_emits, matrix_product_emissions};
 ghost use Rattle.mr_grid.specs.Dense.{turned_of};
 ghost use Rattle.mr_split.specs.Pieces.{AreSpans};
-ghost use Rattle.mr_numeric.specs.Pairs.{row_pair_emits};
+ghost use Rattle.mr_numeric.specs.Narrow.{AreNarrow};
+ghost use Rattle.mr_numeric.specs.Pairs.{row_pair_emits, sum_of};
 
-use crate::pairs::emit_sum;
+use crate::narrow::{are_narrow, row_sum};
+use crate::pairs::{BLOCK, emit_sum, put_sum};
 use crate::spanned::{Items, Spanned};
 use mr_base::{Memory, NumKey};
 use mr_container::{Local, Mapper};
 use mr_grid::Grid;
-use mr_kernels::pair_sum;
 use mr_split::Spans;
 use std::alloc::Global;
 
@@ -22,8 +24,13 @@ use std::alloc::Global;
 pub struct RowPairs<'a> {
     left: &'a Grid,
     right: &'a Grid,
+    // Whether the sums are known to need no more than 32 bits.
+    narrow: bool,
     ghost alike: { columns_of left.now ≡ columns_of right.now },
     ghost few: { length left.now * length right.now ≤ 134217728 },
+    ghost short: { narrow ≡ true → columns_of left.now ≤ 1024 },
+    ghost narrow_left: { narrow ≡ true → AreNarrow left.now },
+    ghost narrow_right: { narrow ≡ true → AreNarrow right.now },
 }
 
 /// The product of two grids.
@@ -41,11 +48,28 @@ impl<'a> Spanned<RowPairs<'a>> {
         ensures whole { (right : List (List ℤ)) → right_turned.now ≡ turned_of right
             → flat_map (⟦<Product<'a> as Mapper>⟧.task_emissions result) (range_with_len 0 (⟦<Product<'a> as Mapper>⟧.task_count result)) ≡ matrix_product_emissions left.now right }
     {
+        let narrow = left.columns() <= 1024 && are_narrow(left) && are_narrow(right_turned);
         let pairs = RowPairs {
             left,
             right: right_turned,
+            narrow,
         };
         Spanned::over(pairs, spans)
+    }
+}
+
+impl<'a> RowPairs<'a> {
+    /// The sum of a pair, or None where it is too large.
+    #[inline(always)]
+    fn sum(&self, pair: u64) -> Option<i64>
+        requires { pair < length self.now.left.now * length self.now.right.now }
+        ensures small { IfSome result (λ z. nat_abs z ≤ limit) }
+        ensures sum { sum_of pair result ≡ row_pair_emits self.now.left.now self.now.right.now pair }
+    {
+        let columns = self.right.rows();
+        let row = self.left.row(pair / columns);
+        let column = self.right.row(pair % columns);
+        row_sum(row, column, self.narrow)
     }
 }
 
@@ -62,9 +86,21 @@ impl<'a> Items for RowPairs<'a> {
         item: u64,
         out: &mut L,
     ) -> Result<(), Memory> {
-        let columns = self.right.rows();
-        let row = self.left.row(item / columns);
-        let column = self.right.row(item % columns);
-        emit_sum(item, pair_sum(row, column), out)
+        emit_sum(item, self.sum(item), out)
+    }
+
+    fn emit_items<L: Local<Key = NumKey, Value = i64>>(
+        &self,
+        alloc: Global,
+        from: u64,
+        to: u64,
+        out: &mut L,
+    ) -> Result<(), Memory> {
+        let mut block = Vec::with_capacity(alloc, BLOCK)?;
+        for item in from..to {
+            put_sum(item, self.sum(item), &mut block, out)?;
+        }
+        out.emit_block(&mut block)?;
+        Ok(())
     }
 }

@@ -1,4 +1,4 @@
-ghost use Rattle.std.specs.Prelude.{◌≡◌, ◌<◌, ◌++◌, ℕ, List, length, take, flat_map, slice_index_or, OnOk, OnErr};
+ghost use Rattle.std.specs.Prelude.{◌≡◌, ◌<◌, ◌≤◌, ◌-◌, ◌++◌, ℕ, List, length, take, flat_map, slice_index_or, OnOk, OnErr};
 ghost use Rattle.std.specs.List.{All, range_with_len};
 ghost use Rattle.mr_defs.specs.Emission.{Emission};
 ghost use Rattle.mr_defs.specs.Tasks as tasks;
@@ -30,6 +30,30 @@ pub trait Items: Drop {
         ensures ok { OnOk result ((es : List (Emission ℕ Self.Value)) → L.stands out.old es → L.stands out.new (es ++ emits self.now item)) }
         ensures err { OnErr result ((es : List (Emission ℕ Self.Value)) → L.stands out.old es → (n : ℕ) × L.stands out.new (es ++ take n (emits self.now item))) }
         ensures origin { L.same_origin out.old out.new };
+
+    /// Emits what the items from one number up to another have, in their order. After `Memory` a first part of that was emitted.
+    ///
+    /// A job whose keys are seldom emitted twice may gather pairs into blocks here.
+    fn emit_items<L: Local<Key = NumKey, Value = Self::Value>>(
+        &self,
+        alloc: Global,
+        from: u64,
+        to: u64,
+        out: &mut L,
+    ) -> Result<(), Memory>
+        requires order { from ≤ to }
+        requires inside { to ≤ count self.now }
+        ensures ok { OnOk result ((es : List (Emission ℕ Self.Value)) → L.stands out.old es
+            → L.stands out.new (es ++ flat_map (emits self.now) (range_with_len from (to - from)))) }
+        ensures err { OnErr result ((es : List (Emission ℕ Self.Value)) → L.stands out.old es
+            → (n : ℕ) × L.stands out.new (es ++ take n (flat_map (emits self.now) (range_with_len from (to - from))))) }
+        ensures origin { L.same_origin out.old out.new }
+    {
+        for item in from..to {
+            self.emit_item(alloc, item, out)?;
+        }
+        Ok(())
+    }
 }
 
 /// A job over numbered items: a task is a span of them, and emits what its items emit, in their order.
@@ -72,9 +96,6 @@ impl<I: Items> Mapper for Spanned<I> {
         out: &mut L,
     ) -> Result<(), Memory> {
         let span = self.spans.get(task);
-        for item in span.start..span.end {
-            self.items.emit_item(alloc, item, out)?;
-        }
-        Ok(())
+        self.items.emit_items(alloc, span.start, span.end, out)
     }
 }

@@ -1,18 +1,23 @@
-use Rattle.std.proofs.Common.{ℕ, List, ◌≡◌, ◌++◌, ◌+◌, ◌*◌, ap, ◌∙◌, arith, to_z, of_z}
+use Rattle.std.proofs.Common.{rules, ℕ, List, ◌≡◌, ◌++◌, ◌+◌, ◌*◌, pos, get_or, ap₂, ◌∙◌, arith}
 use Rattle.std.specs.Int.{w128}
-use Rattle.mr_items.specs.Texts.{number_at}
+use Rattle.std.proofs.lemmas.Int.{to_z-of_z}
 use Rattle.mr_numeric.specs.Couples.{couple_text}
-use Rattle.mr_numeric.proofs.Emitted.{emitted, one_more}
-use Rattle.mr_numeric.proofs.Products.{kept_wide}
+use Rattle.mr_numeric.proofs.Emitted.{one_more}
+use Rattle.mr_numeric.proofs.MeanLines.{key_below}
 use Rattle.mr_numeric.proofs.pca_lines.push_couples.Goals as goal
+
+pub bounds-sums-i : goal.bounds-sums-i
+bounds-sums-i c = omega (arith, key_below c.args.i c.loop-j.j c.args.columns c.requires.i c.loop-j-test.true, c.requires.sums)
 
 pub loop-j-preserved : goal.loop-j-preserved
 loop-j-preserved c =
-    let lines : ℕ → List ℕ = λ j. couple_text c.args.points c.args.i j (number_at c.args.rows.now (c.args.i * c.args.columns + j)) in
+    let key = c.args.i * c.args.columns + c.loop-j.j in
+    let sum = get_or c.args.sums.now key (pos 0) in
+    let lines : ℕ → List ℕ = λ j. couple_text c.args.points c.args.i j (get_or c.args.sums.now (c.args.i * c.args.columns + j) (pos 0)) in
     record {
       from = omega (arith, c.loop-j.invariant.from);
       text = one_more lines c.args.i (λ l. c.push_couple.new.text ≡ l) c.args.text.now c.loop-j.j c.loop-j.invariant.from
-          (c.in_ok-push_couple.ensures ∙ (ap (λ t. t ++ couple_text c.args.points c.args.i c.loop-j.j (to_z w128 (of_z w128 c.sum_at-sum.result))) c.loop-j.invariant.text
-          ∙ ap (λ l. (c.args.text.now ++ emitted lines c.args.i c.loop-j.j) ++ l)
-          (ap (couple_text c.args.points c.args.i c.loop-j.j) (kept_wide c.sum_at-sum.result c.sum_at-sum.ensures.small ∙ c.sum_at-sum.ensures.number))));
+          (c.in_ok-push_couple.ensures
+          ∙ ap₂ (λ t z. t ++ couple_text c.args.points c.args.i c.loop-j.j z) c.loop-j.invariant.text
+          (to_z-of_z w128 sum (search rules)));
     }

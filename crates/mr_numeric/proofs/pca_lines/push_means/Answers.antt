@@ -1,4 +1,4 @@
-use Rattle.std.proofs.Common.{rules, ◌≡◌, ◌++◌, ap, sym, ◌∙◌, arith, get_or, pos, length}
+use Rattle.std.proofs.Common.{◌≡◌, ◌++◌, ap, ◌∙◌, arith, get_or, pos, length}
 use Rattle.mr_items.specs.Pca.{mean_line}
 use Rattle.mr_numeric.proofs.Emitted.{emitted, one_more}
 use Rattle.mr_numeric.proofs.MeanLines.{mean_at, mean_here, all_means}

@@ -1,6 +1,6 @@
 use Rattle.std.proofs.Common.{◌≡◌, ◌==◌, drop}
 use Rattle.std.specs.Prelude.{find}
-use Rattle.mr_numeric.proofs.sums.sum_at.Given as goal
+use Rattle.mr_numeric.proofs.sums.answer_at.Given as goal
 
 -- the row is among those that are left
 abbrev pub invariant-loop-row : goal.invariant-loop-row
