@@ -10,26 +10,21 @@ use Rattle.mr_capacity.specs.declared.kinds.ContainerKind.{ContainerKind}
 use Rattle.mr_capacity.specs.declared.kinds.CombinerKind.{CombinerKind}
 use Rattle.mr_capacity.specs.declared.tables.Further.TheVariants as further
 use Rattle.mr_capacity.specs.contracts.kinds.JobKind.{the_type}
-use Rattle.mr_capacity.specs.Names.{job_names, container_names, combiner_names, queue_names}
 use Rattle.mr_capacity.specs.Same.{same_job, same_further, same_keys}
 use Rattle.mr_capacity.specs.Tables.{Row, rows, is_row, is_capacity, is_pairing, has_parts}
 use Rattle.mr_jobfile.specs.declared.key.JobKey.{JobKey}
 use Rattle.mr_jobfile.specs.declared.key.JobKey.TheVariants as key
 use Rattle.mr_jobfile.specs.declared.values.Values.{Values}
 use Rattle.mr_jobfile.specs.Ranges.{most_partitions, greatest_chunk, most_clusters, most_rounds, is_within, is_count_of, are_patterns, are_patterns_of, has_means, has_patterns, is_text_job}
-use Rattle.mr_jobfile.specs.Forms.{is_there, is_bad, first_bad, number_in, kind_in, texts_in, is_built_job, is_built_container, is_built_combiner, is_built_queue}
+use Rattle.mr_jobfile.specs.Forms.{is_there, is_bad, first_bad, number_in, texts_in}
 use Rattle.mr_jobfile.specs.Keys.{key_text, all_keys}
-use Rattle.mr_jobfile.specs.Values.{said, values_of, is_there_exactly, has_further, fits_row, keys_in, default_chunk, default_queue, default_partitions, job_with, job_by, described}
+use Rattle.mr_jobfile.specs.Values.{said, values_of, is_there_exactly, has_further, fits_row, keys_in, default_chunk, default_partitions, job_with, job_by, described}
 use Rattle.mr_jobfile.specs.Allowed.{IsAllowed}
 use Rattle.mr_jobfile.proofs.Found.{not_found, found_passes, found_among, some_more, some_map, some_both}
 
 -- what the values of a table without a bad value keep
 pub record AreGood (v : Values) : Type 0 where
-  pub job : IfSome v.job (λ k. is_built_job k ≡ true)
-  pub container : IfSome v.container (λ k. is_built_container k ≡ true)
   pub capacity : IfSome v.capacity (λ n. is_capacity (pos n) ≡ true)
-  pub combiner : IfSome v.combiner (λ k. is_built_combiner k ≡ true)
-  pub queue : IfSome v.queue (λ k. is_built_queue k ≡ true)
   pub partitions : IfSome v.partitions (λ n. is_within 1 most_partitions n ≡ true)
   pub chunk : IfSome v.chunk (λ n. is_within 1 greatest_chunk n ≡ true)
   pub clusters : IfSome v.clusters (λ n. is_within 1 most_clusters n ≡ true)
@@ -57,10 +52,6 @@ are_good : (ms : Members) → first_bad ms ≡ None → AreGood (values_of ms)
 are_good ms none =
     let good : (i : ℕ) (k : JobKey) → slice_get all_keys i ≡ Some k → is_bad ms k ≡ false = λ i k at. not_found (is_bad ms) all_keys i k none at in
     record {
-      job = good_at is_built_job (kind_in job_names) (get_member (key_text key.Job) ms) (good 1 key.Job refl);
-      container = good_at is_built_container (kind_in container_names) (get_member (key_text key.Container) ms) (good 2 key.Container refl);
-      combiner = good_at is_built_combiner (kind_in combiner_names) (get_member (key_text key.Combiner) ms) (good 4 key.Combiner refl);
-      queue = good_at is_built_queue (kind_in queue_names) (get_member (key_text key.Queue) ms) (good 7 key.Queue refl);
       capacity = number_good (λ n. is_capacity (pos n)) ms key.Capacity (good 3 key.Capacity refl);
       partitions = number_good (is_within 1 most_partitions) ms key.Partitions (good 8 key.Partitions refl);
       chunk = number_good (is_within 1 greatest_chunk) ms key.Chunk (good 9 key.Chunk refl);
@@ -135,9 +126,10 @@ default_chunk_good job = by_size (is_text_job job)
     by_size true = refl
     by_size false = refl
 
-allowed_with : (v : Values) → AreGood v → (job : JobKind) (container : ContainerKind) (capacity : ℕ) (combiner : CombinerKind) → is_built_job job ≡ true → is_built_container container ≡ true → is_built_combiner combiner ≡ true → is_capacity (pos capacity) ≡ true
+allowed_with : (v : Values) → AreGood v → (job : JobKind) (container : ContainerKind) (capacity : ℕ) (combiner : CombinerKind)
+    → is_capacity (pos capacity) ≡ true
     → IfSome (option_map (job_with v job container capacity combiner) (keys_in rows v job container combiner)) IsAllowed
-allowed_with v good job container capacity combiner job_good container_good combiner_good capacity_good =
+allowed_with v good job container capacity combiner capacity_good =
     let fits : Row → Bool = fits_row v job container combiner in
     let passing : IfSome (find fits rows) (λ row. (fits row ≡ true) × (agrees row ≡ true)) = found_passes fits agrees rows all_agree in
     let among : IfSome (find fits rows) (λ row. is_pairing job container row.keys combiner v.reducer ≡ true) =
@@ -148,10 +140,6 @@ allowed_with v good job container capacity combiner job_good container_good comb
     (λ row known.
     let more = further_of v job container combiner row known.0.0 known.0.1 in
     record {
-      job = job_good;
-      container = container_good;
-      combiner = combiner_good;
-      queue = default_good is_built_queue v.queue default_queue good.queue refl;
       capacity = capacity_good;
       pairing = known.1;
       partitions = default_good (is_within 1 most_partitions) v.partitions default_partitions good.partitions refl;
@@ -162,14 +150,14 @@ allowed_with v good job container capacity combiner job_good container_good comb
     })))
 
 by_parts : (v : Values) → AreGood v → (job : Option JobKind) (container : Option ContainerKind) (capacity : Option ℕ) (combiner : Option CombinerKind)
-    → IfSome job (λ k. is_built_job k ≡ true) → IfSome container (λ k. is_built_container k ≡ true) → IfSome combiner (λ k. is_built_combiner k ≡ true) → IfSome capacity (λ n. is_capacity (pos n) ≡ true) → IfSome (job_by v job container capacity combiner) IsAllowed
-by_parts v good None container capacity combiner j t b c = tt
-by_parts v good (Some job) None capacity combiner j t b c = tt
-by_parts v good (Some job) (Some container) None combiner j t b c = tt
-by_parts v good (Some job) (Some container) (Some capacity) None j t b c = tt
-by_parts v good (Some job) (Some container) (Some capacity) (Some combiner) j t b c = allowed_with v good job container capacity combiner j t b c
+    → IfSome capacity (λ n. is_capacity (pos n) ≡ true) → IfSome (job_by v job container capacity combiner) IsAllowed
+by_parts v good None container capacity combiner c = tt
+by_parts v good (Some job) None capacity combiner c = tt
+by_parts v good (Some job) (Some container) None combiner c = tt
+by_parts v good (Some job) (Some container) (Some capacity) None c = tt
+by_parts v good (Some job) (Some container) (Some capacity) (Some combiner) c = allowed_with v good job container capacity combiner c
 
 pub allowed : (v : Values) (ms : Members) → v ≡ values_of ms → first_bad ms ≡ None → IfSome (described v) IsAllowed
 allowed v ms same none =
     let good : AreGood v = rw same (are_good ms none) in
-    by_parts v good v.job v.container v.capacity v.combiner good.job good.container good.combiner good.capacity
+    by_parts v good v.job v.container v.capacity v.combiner good.capacity

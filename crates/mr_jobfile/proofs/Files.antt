@@ -83,8 +83,8 @@ chunk_0 : job_of (words ++ codes "chunk = 0\n") ≡ Err (fault.BadValue key.Chun
 unfolding toml_on_literals chars encode_utf8 is_utf8 job_of document_of
 chunk_0 = refl
 
--- the shared array isn't built yet
-container_common : job_of (codes "version = 1\njob = \"word_count\"\ncontainer = \"common\"\ncapacity = 1024\ncombiner = \"sum\"\n") ≡ Err (fault.BadValue key.Container)
+-- the array common to all workers doesn't go with words
+container_common : job_of (codes "version = 1\njob = \"word_count\"\ncontainer = \"common\"\ncapacity = 1024\ncombiner = \"sum\"\n") ≡ Err fault.Pairing
 unfolding toml_on_literals chars encode_utf8 is_utf8 job_of document_of
 container_common = refl
 

@@ -1,4 +1,4 @@
--- The job that the values of a file mean, also where its kinds aren't built yet.
+-- The job that the values of a file mean.
 use Rattle.std.proofs.Common.{◌≡◌, ℕ, List, [], ◌∷◌, ◌++◌, codes, refl, Option, Some, None, option_map}
 use Rattle.std.specs.Str.{chars, is_utf8}
 use Rattle.std.specs.Char.{encode_utf8}

@@ -1,16 +1,11 @@
--- What a job keeps: its kinds are built and go together, and its numbers are in their ranges.
+-- What a job keeps: its kinds go together, and its numbers are in their ranges.
 use Rattle.std.specs.Prelude.{IsTrue, pos}
 use Rattle.mr_capacity.specs.Tables.{is_capacity, is_pairing}
-use Rattle.mr_jobfile.specs.Forms.{is_built_job, is_built_container, is_built_combiner, is_built_queue}
 use Rattle.mr_jobfile.specs.Ranges.{most_partitions, greatest_chunk, most_clusters, most_rounds, is_within, is_count_of, are_patterns_of, has_means, has_patterns}
 use Rattle.mr_jobfile.specs.Values.{SeenJob}
 
 -- capacity and pairing are in their tables, and every number and list is in its range
 pub record IsAllowed (j : SeenJob) : Type 0 where
-  pub job : IsTrue (is_built_job j.job)
-  pub container : IsTrue (is_built_container j.container)
-  pub combiner : IsTrue (is_built_combiner j.combiner)
-  pub queue : IsTrue (is_built_queue j.queue)
   pub capacity : IsTrue (is_capacity (pos j.capacity))
   pub pairing : IsTrue (is_pairing j.job j.container j.keys j.combiner j.reducer)
   pub partitions : IsTrue (is_within 1 most_partitions j.partitions)

@@ -1,18 +1,11 @@
 -- Which values a key may have.
 use Rattle.std.specs.Prelude.{ℕ, pos, ◌^◌, Bool, false, not, nat_lt, is_some, List, [], ◌∷◌, find, if◌then◌else◌, Option, Some, None, option_and_then, option_map}
 use Rattle.std.specs.Option.{option_map_or}
-use Rattle.std.specs.List.{list_any}
 use Rattle.toml.specs.Data.{Data, string, integer, Items, no_items, item, Members, get_member, as_str, as_array}
-use Rattle.mr_capacity.specs.declared.kinds.JobKind.{JobKind}
-use Rattle.mr_capacity.specs.declared.kinds.ContainerKind.{ContainerKind}
-use Rattle.mr_capacity.specs.declared.kinds.CombinerKind.{CombinerKind}
-use Rattle.mr_capacity.specs.declared.kinds.QueueKind.{QueueKind}
 use Rattle.mr_capacity.specs.Names.{named, job_names, container_names, key_names, combiner_names, reducer_names, queue_names}
-use Rattle.mr_capacity.specs.Same.{same_job, same_container, same_combiner, same_queue}
 use Rattle.mr_capacity.specs.Tables.{is_capacity}
 use Rattle.mr_jobfile.specs.declared.key.JobKey.{JobKey}
 use Rattle.mr_jobfile.specs.declared.key.JobKey.TheVariants as key
-use Rattle.mr_jobfile.specs.declared.built.TheConstants.{BUILT_JOBS, BUILT_CONTAINERS, BUILT_COMBINERS, BUILT_QUEUES}
 use Rattle.mr_jobfile.specs.Keys.{key_text, all_keys}
 use Rattle.mr_jobfile.specs.Ranges.{is_within, are_patterns, most_partitions, greatest_chunk, most_clusters, most_rounds}
 
@@ -39,29 +32,16 @@ texts_of (item _ ds) = None
 abbrev pub texts_in : Data → Option (List (List ℕ))
 texts_in d = option_and_then texts_of (as_array d)
 
--- the kinds that are built so far
-abbrev pub is_built_job : JobKind → Bool
-is_built_job k = list_any (λ b. same_job b k) BUILT_JOBS
-
-abbrev pub is_built_container : ContainerKind → Bool
-is_built_container k = list_any (λ b. same_container b k) BUILT_CONTAINERS
-
-abbrev pub is_built_combiner : CombinerKind → Bool
-is_built_combiner k = list_any (λ b. same_combiner b k) BUILT_COMBINERS
-
-abbrev pub is_built_queue : QueueKind → Bool
-is_built_queue k = list_any (λ b. same_queue b k) BUILT_QUEUES
-
 -- the value is one that the key may have
 abbrev pub fits : JobKey → Data → Bool
 fits key.Version d = is_there (is_within 1 1) (number_in d)
-fits key.Job d = is_there is_built_job (kind_in job_names d)
-fits key.Container d = is_there is_built_container (kind_in container_names d)
+fits key.Job d = is_some (kind_in job_names d)
+fits key.Container d = is_some (kind_in container_names d)
 fits key.Capacity d = is_there (λ n. is_capacity (pos n)) (number_in d)
-fits key.Combiner d = is_there is_built_combiner (kind_in combiner_names d)
+fits key.Combiner d = is_some (kind_in combiner_names d)
 fits key.Reducer d = is_some (kind_in reducer_names d)
 fits key.Keys d = is_some (kind_in key_names d)
-fits key.Queue d = is_there is_built_queue (kind_in queue_names d)
+fits key.Queue d = is_some (kind_in queue_names d)
 fits key.Partitions d = is_there (is_within 1 most_partitions) (number_in d)
 fits key.Chunk d = is_there (is_within 1 greatest_chunk) (number_in d)
 fits key.Clusters d = is_there (is_within 1 most_clusters) (number_in d)

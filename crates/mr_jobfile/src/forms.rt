@@ -1,12 +1,11 @@
 ghost use Rattle.std.specs.Prelude.{◌≡◌, ◌&&◌, length};
-ghost use Rattle.std.specs.List.{list_all, list_any};
+ghost use Rattle.std.specs.List.{list_all};
 ghost use Rattle.toml.specs.Data.{as_str, get_member};
 ghost use Rattle.toml.specs.View.{table_view, view};
 ghost use Rattle.mr_capacity.specs.Names.{entries};
 ghost use Rattle.mr_jobfile.specs.Forms.{first_bad, fits, is_bad, is_there, kind_in, number_in, texts_in};
 ghost use Rattle.mr_jobfile.specs.Ranges.{are_patterns, is_pattern, is_within, most_patterns};
 
-use crate::built::{BUILT_COMBINERS, BUILT_CONTAINERS, BUILT_JOBS, BUILT_QUEUES};
 use crate::key::{ALL_KEYS, JobKey};
 use mr_capacity::{
     COMBINER_NAMES, CONTAINER_NAMES, JOB_NAMES, KEY_NAMES, QUEUE_NAMES, REDUCER_NAMES,
@@ -31,15 +30,6 @@ pub fn kind<K: Copy>(value: &Value, names: &[(&str, K)]) -> Option<K>
     match value.as_str() {
         Some(text) => named(names, text),
         None => None,
-    }
-}
-
-fn is_built<K: PartialEq + Drop>(kind: Option<K>, built: &[K]) -> bool
-    ensures { result ≡ is_there (λ k. list_any (λ b. K.eq b k) built.now) kind }
-{
-    match kind {
-        Some(kind) => built.contains(&kind),
-        None => false,
     }
 }
 
@@ -102,13 +92,13 @@ fn fits(key: JobKey, value: &Value) -> bool
 {
     match key {
         JobKey::Version => is_number_within(value, 1, 1),
-        JobKey::Job => is_built(kind(value, &JOB_NAMES), &BUILT_JOBS),
-        JobKey::Container => is_built(kind(value, &CONTAINER_NAMES), &BUILT_CONTAINERS),
+        JobKey::Job => kind(value, &JOB_NAMES).is_some(),
+        JobKey::Container => kind(value, &CONTAINER_NAMES).is_some(),
         JobKey::Capacity => is_capacity(value),
-        JobKey::Combiner => is_built(kind(value, &COMBINER_NAMES), &BUILT_COMBINERS),
+        JobKey::Combiner => kind(value, &COMBINER_NAMES).is_some(),
         JobKey::Reducer => kind(value, &REDUCER_NAMES).is_some(),
         JobKey::Keys => kind(value, &KEY_NAMES).is_some(),
-        JobKey::Queue => is_built(kind(value, &QUEUE_NAMES), &BUILT_QUEUES),
+        JobKey::Queue => kind(value, &QUEUE_NAMES).is_some(),
         JobKey::Partitions => is_number_within(value, 1, 64),
         JobKey::Chunk => is_number_within(value, 1, 16777216),
         JobKey::Clusters => is_number_within(value, 1, 64),

@@ -1,12 +1,11 @@
 ghost use Rattle.std.specs.Prelude.{◌≡◌, IsTrue, pos};
 ghost use Rattle.mr_capacity.specs.Tables.{is_capacity, is_pairing};
-ghost use Rattle.mr_jobfile.specs.Forms.{is_built_combiner, is_built_container, is_built_job, is_built_queue};
 ghost use Rattle.mr_jobfile.specs.Ranges.{most_partitions, greatest_chunk, most_clusters, most_rounds, are_patterns_of, has_means, has_patterns, is_count_of, is_within};
 
 use mr_base::Patterns;
 use mr_capacity::{CombinerKind, ContainerKind, JobKind, KeyKind, QueueKind, ReducerKind};
 
-/// A job: what a job file says, with its defaults filled in. Only what the tables allow, and what is built, can be one.
+/// A job: what a job file says, with its defaults filled in. Only what the tables allow can be one.
 #[derive(Drop)]
 pub struct Job {
     pub job: JobKind,
@@ -29,10 +28,6 @@ pub struct Job {
     pub rounds: u32,
     /// 1 to 16 patterns of 1 to 64 bytes for string match, and none for every other job.
     pub patterns: Patterns,
-    pub ghost job_is_built: { IsTrue (is_built_job job) },
-    pub ghost container_is_built: { IsTrue (is_built_container container) },
-    pub ghost combiner_is_built: { IsTrue (is_built_combiner combiner) },
-    pub ghost queue_is_built: { IsTrue (is_built_queue queue) },
     pub ghost capacity_is_allowed: { IsTrue (is_capacity (pos capacity)) },
     pub ghost pairing_is_allowed: { IsTrue (is_pairing job container keys combiner reducer) },
     pub ghost partitions_in_range: { IsTrue (is_within 1 most_partitions partitions) },

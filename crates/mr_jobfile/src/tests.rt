@@ -76,7 +76,7 @@ const FILES: [(&str, &str); 39] = [
     ),
     (
         "version = 1\njob = \"word_count\"\ncontainer = \"common\"\ncapacity = 1024\ncombiner = \"sum\"\n",
-        "bad container",
+        "pairing",
     ),
     (
         "version = 1\njob = \"word_count\"\ncontainer = \"hash\"\ncapacity = 17\ncombiner = \"sum\"\n",
@@ -112,7 +112,7 @@ const FILES: [(&str, &str); 39] = [
     ),
     (
         "version = 1\njob = \"word_count\"\ncontainer = \"hash\"\ncapacity = 16\ncombiner = \"once\"\n",
-        "bad combiner",
+        "pairing",
     ),
     (
         "version = 1\njob = \"word_count\"\ncontainer = \"hash\"\ncapacity = 16\ncombiner = \"min\"\n",
