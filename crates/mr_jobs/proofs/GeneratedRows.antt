@@ -17,10 +17,12 @@ use Rattle.mr_jobs.specs.declared.refusal.Refusal.{Refusal}
 
 -- it ends with the summary of the round's rows, or by its fault
 pub summed_rows : (j : SeenJob) {B : Type 0} (see : B → List ℕ) (result : Result B (Stop Refusal)) (input text : List ℕ) → input ≡ text
-    → MeetsSeen see (ended_by shown_text (texted (written_text (written.Summary (length input)) (λ k. k)) (round_of byte_order all_inside false (folded j.combiner j.reducer) (word_count_emissions input)))) result
+    → MeetsSeen see (ended_by shown_text (texted (written_text (written.Summary (length input)) (λ k. k))
+    (round_of byte_order all_inside false (folded j.combiner j.reducer) (word_count_emissions input)))) result
     → MeetsSeen see (generated_ending j text) result
 summed_rows j see result input text same meets =
     subst (λ ended. MeetsSeen see ended result)
-    (ap (ended_by shown_text) (one_round byte_order all_inside false (folded j.combiner j.reducer) (written_text (written.Summary (length input)) (λ k. k)) (word_count_emissions input))
+    (ap (ended_by shown_text) (one_round byte_order all_inside false (folded j.combiner j.reducer)
+    (written_text (written.Summary (length input)) (λ k. k)) (word_count_emissions input))
     ∙ ap (generated_ending j) same)
     meets

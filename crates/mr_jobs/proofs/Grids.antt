@@ -15,16 +15,20 @@ module _ (numbers : List ℤ) (columns rows : ℕ) (dense : IsDense numbers colu
   grid = rows_of numbers columns rows
 
   row_at : (r : ℕ) → r < length grid → get_or grid r [] ≡ slice_chunk numbers columns r
-  row_at r below = get_or_from_slice_get grid r (slice_chunk numbers columns r) [] (row_of numbers columns rows r (omega (arith, below, length-rows_of numbers columns rows)))
+  row_at r below = get_or_from_slice_get grid r (slice_chunk numbers columns r) []
+      (row_of numbers columns rows r (omega (arith, below, length-rows_of numbers columns rows)))
 
   -- rows of one length, of bounded numbers
   pub dense_even : IsEven grid
   dense_even = record {
     even = All-from_get_or (λ row. length row ≡ columns_of grid) grid [] (λ r below.
         ap length (row_at r below)
-        ∙ length-chunk (r * columns) columns numbers (row_within numbers columns rows r (omega (arith, below, length-rows_of numbers columns rows)) dense.size) ∙ sym (columns_is numbers columns rows dense));
+        ∙ length-chunk (r * columns) columns numbers (row_within numbers columns rows r
+        (omega (arith, below, length-rows_of numbers columns rows)) dense.size) ∙ sym (columns_is numbers columns rows dense));
     small = All-from_get_or (All (λ z. nat_abs z ≤ 2147483647)) grid [] (λ r below.
-        subst (All (λ z. nat_abs z ≤ 2147483647)) (sym (row_at r below)) (All-take (λ z. nat_abs z ≤ 2147483647) columns _ (All-drop (λ z. nat_abs z ≤ 2147483647) (r * columns) numbers dense.bounded)));
+        subst (All (λ z. nat_abs z ≤ 2147483647)) (sym (row_at r below))
+        (All-take (λ z. nat_abs z ≤ 2147483647) columns _
+        (All-drop (λ z. nat_abs z ≤ 2147483647) (r * columns) numbers dense.bounded)));
   }
 
   -- without columns there is no row

@@ -1,5 +1,6 @@
 mod Sharing
 mod Merging
+mod CommonRounds
 mod SameRound
 mod OneRound
 mod GeneratedRows
@@ -10,3 +11,6 @@ mod Printing
 mod SpanShares
 mod Grids
 mod Factors
+mod Repeated
+mod PassRows
+mod ClustersMoved

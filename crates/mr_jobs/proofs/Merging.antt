@@ -55,10 +55,13 @@ module _ {K X : Type 0} (R : K → K → Ordering) where
   entries_ascend (e ∷ es) h = both _ _ (below e.0 es h.0) (entries_ascend es h.1)
 
 module _ {K X : Type 0} {R : K → K → Ordering} (o : IsTotalOrder R) (one : IsAntisymmetric R) where
-  found : (xs ys : List (K × X)) → IsPermutation xs ys → IsStrictlySortedBy R (map (λ e. e.0) ys) → (q : K) (v : X) → find R q xs ≡ Some v → find R q ys ≡ Some v
-  found xs ys same sorted q v e = lookup-from_Contains (eq_by_cmp_equiv o) q v ys (IsDistinct-from_sorted R (map (λ e. e.0) ys) sorted) (Contains-permutation xs ys (q, v) same (Contains-from_lookup (tells_apart one) q v xs e))
+  found : (xs ys : List (K × X)) → IsPermutation xs ys → IsStrictlySortedBy R (map (λ e. e.0) ys) → (q : K) (v : X) → find R q xs ≡ Some v
+      → find R q ys ≡ Some v
+  found xs ys same sorted q v e = lookup-from_Contains (eq_by_cmp_equiv o) q v ys (IsDistinct-from_sorted R (map (λ e. e.0) ys) sorted)
+      (Contains-permutation xs ys (q, v) same (Contains-from_lookup (tells_apart one) q v xs e))
 
-  pub found_same : (xs ys : List (K × X)) → IsPermutation xs ys → IsStrictlySortedBy R (map (λ e. e.0) xs) → IsStrictlySortedBy R (map (λ e. e.0) ys) → (q : K) → find R q xs ≡ find R q ys
+  pub found_same : (xs ys : List (K × X)) → IsPermutation xs ys → IsStrictlySortedBy R (map (λ e. e.0) xs)
+      → IsStrictlySortedBy R (map (λ e. e.0) ys) → (q : K) → find R q xs ≡ find R q ys
   found_same xs ys same one_way other_way q =
       elim (find R q xs) as (λ f. find R q xs ≡ f → f ≡ find R q ys) [
         | Some v ↦ λ e. sym (found xs ys same other_way q v e)
@@ -69,17 +72,21 @@ module _ {K X : Type 0} {R : K → K → Ordering} (o : IsTotalOrder R) (one : I
       ] refl
 
   -- one list in two orders, in both of which its keys ascend
-  pub one_order : (xs ys : List (K × X)) → IsPermutation xs ys → IsStrictlySortedBy R (map (λ e. e.0) xs) → IsStrictlySortedBy R (map (λ e. e.0) ys) → xs ≡ ys
-  one_order xs ys same one_way other_way = same_entries R o one xs ys (entries_ascend R xs one_way) (entries_ascend R ys other_way) (found_same xs ys same one_way other_way)
+  pub one_order : (xs ys : List (K × X)) → IsPermutation xs ys → IsStrictlySortedBy R (map (λ e. e.0) xs)
+      → IsStrictlySortedBy R (map (λ e. e.0) ys) → xs ≡ ys
+  one_order xs ys same one_way other_way = same_entries R o one xs ys (entries_ascend R xs one_way) (entries_ascend R ys other_way)
+      (found_same xs ys same one_way other_way)
 
 module _ {K A : Type 0} (R : K → K → Ordering) (f : K → Option A) where
   abbrev row : K → Option (K × A)
   row k = option_map (λ a. (k, a)) (f k)
 
-  row_behind : (x : K) (ks : List K) → T (below_all R x (marked ks)) → AllByRecursion (λ y. R x y ≡ Less) (map (λ r. r.0) (filter_map row ks))
+  row_behind : (x : K) (ks : List K) → T (below_all R x (marked ks))
+      → AllByRecursion (λ y. R x y ≡ Less) (map (λ r. r.0) (filter_map row ks))
   row_behind x [] h = tt
   row_behind x (k ∷ ks) h =
-      elim (f k) as (λ a. AllByRecursion (λ y. R x y ≡ Less) (map (λ r. r.0) (cons_option (option_map (λ a. (k, a)) a) (filter_map row ks)))) [
+      elim (f k) as (λ a. AllByRecursion (λ y. R x y ≡ Less)
+      (map (λ r. r.0) (cons_option (option_map (λ a. (k, a)) a) (filter_map row ks)))) [
         | None ↦ row_behind x ks (second _ _ h)
         | Some a ↦ (is_Less (R x k) (first _ _ h), row_behind x ks (second _ _ h))
       ]
@@ -109,14 +116,18 @@ module _ {K : Type 0} (R : K → K → Ordering) (p : K → Bool) where
     | false ↦ kept_ascend ks (second _ _ h)
   ]
 
-module _ {K V : Type 0} {R : K → K → Ordering} (o : IsTotalOrder R) (one : IsAntisymmetric R) (inside : K → Bool) (folded : List V → Option Answer) (es : List (Emission K V)) where
+module _ {K V : Type 0} {R : K → K → Ordering} (o : IsTotalOrder R) (one : IsAntisymmetric R) (inside : K → Bool)
+    (folded : List V → Option Answer) (es : List (Emission K V)) where
   rows_of_ascend : IsStrictlySortedBy R (map (λ r. r.0) (rows_of R inside folded es))
-  rows_of_ascend = rows_ascend R (λ k. folded (at R es k)) (keys_inside R inside es) (kept_ascend R inside (keys R es) (ascending_sorted R o (filter_map pair_key es)))
+  rows_of_ascend = rows_ascend R (λ k. folded (at R es k)) (keys_inside R inside es)
+      (kept_ascend R inside (keys R es) (ascending_sorted R o (filter_map pair_key es)))
 
   -- the lists together have the rows of the emissions, and the merged list has theirs and ascends
-  pub merged_rows : (lists : List (List (Row K))) (rows : List (Row K)) → IsSpread R (rows_of R inside folded es) lists → IsPermutation (concatenated lists) rows → IsStrictlySortedBy R (map (λ r. r.0) rows) → rows ≡ rows_of R inside folded es
+  pub merged_rows : (lists : List (List (Row K))) (rows : List (Row K)) → IsSpread R (rows_of R inside folded es) lists
+      → IsPermutation (concatenated lists) rows → IsStrictlySortedBy R (map (λ r. r.0) rows) → rows ≡ rows_of R inside folded es
   merged_rows lists rows spread merged ascends =
-      sym (one_order o one (rows_of R inside folded es) rows (IsPermutation-trans (rows_of R inside folded es) (concatenated lists) rows spread.all merged) rows_of_ascend ascends)
+      sym (one_order o one (rows_of R inside folded es) rows
+      (IsPermutation-trans (rows_of R inside folded es) (concatenated lists) rows spread.all merged) rows_of_ascend ascends)
 
   module _ (lists : List (List (Row K))) (noted : Noted K) (spread : IsSpreadOf R inside folded lists noted es) where
     first_is : first_of noted ≡ fault_of R inside folded es
@@ -127,18 +138,24 @@ module _ {K V : Type 0} {R : K → K → Ordering} (o : IsTotalOrder R) (one : I
     round_refused fault is = ap (λ f. option_map_or Err f (Ok (rows_of R inside folded es))) (sym (is ∙ first_is))
 
     -- or, where none was, these rows
-    pub round_passed : (rows : List (Row K)) → None ≡ first_of noted → IsPermutation (concatenated lists) rows → IsStrictlySortedBy R (map (λ r. r.0) rows) → round_of R inside false folded es ≡ Ok rows
+    pub round_passed : (rows : List (Row K)) → None ≡ first_of noted → IsPermutation (concatenated lists) rows
+        → IsStrictlySortedBy R (map (λ r. r.0) rows) → round_of R inside false folded es ≡ Ok rows
     round_passed rows is merged ascends =
-        ap (λ f. option_map_or Err f (Ok (rows_of R inside folded es))) (sym (is ∙ first_is)) ∙ ap Ok (sym (merged_rows lists rows spread.rows merged ascends))
+        ap (λ f. option_map_or Err f (Ok (rows_of R inside folded es))) (sym (is ∙ first_is))
+        ∙ ap Ok (sym (merged_rows lists rows spread.rows merged ascends))
 
 -- of one list that ascends all keys differ
-pub one_list : {K A : Type 0} (R : K → K → Ordering) (lists : List (List (K × A))) → length lists ≡ 1 → All (λ list. IsStrictlySortedBy R (map (λ row. row.0) list)) lists → IsDistinct (eq_by_cmp R) (map (λ row. row.0) (concatenated lists))
+pub one_list : {K A : Type 0} (R : K → K → Ordering) (lists : List (List (K × A))) → length lists ≡ 1
+    → All (λ list. IsStrictlySortedBy R (map (λ row. row.0) list)) lists
+    → IsDistinct (eq_by_cmp R) (map (λ row. row.0) (concatenated lists))
 one_list R [] one all = absurd (omega (arith, one))
 one_list R (l ∷ []) one all =
-    subst (λ rows. IsDistinct (eq_by_cmp R) (map (λ row. row.0) rows)) (sym (append-nil l)) (IsDistinct-from_sorted R (map (λ row. row.0) l) (All-head (λ list. IsStrictlySortedBy R (map (λ row. row.0) list)) l [] all))
+    subst (λ rows. IsDistinct (eq_by_cmp R) (map (λ row. row.0) rows)) (sym (append-nil l))
+    (IsDistinct-from_sorted R (map (λ row. row.0) l) (All-head (λ list. IsStrictlySortedBy R (map (λ row. row.0) list)) l [] all))
 one_list R (l ∷ m ∷ ls) one all = absurd (omega (arith, one))
 
-pub only_differ : {K A B E : Type 0} (R : K → K → Ordering) (lists : B → List (List (K × A))) (result : Result B E) → IfOk result (λ r. length (lists r) ≡ 1) → IfOk result (λ r. All (λ list. IsStrictlySortedBy R (map (λ row. row.0) list)) (lists r))
+pub only_differ : {K A B E : Type 0} (R : K → K → Ordering) (lists : B → List (List (K × A))) (result : Result B E)
+    → IfOk result (λ r. length (lists r) ≡ 1) → IfOk result (λ r. All (λ list. IsStrictlySortedBy R (map (λ row. row.0) list)) (lists r))
     → IfOk result (λ r. IsDistinct (eq_by_cmp R) (map (λ row. row.0) (concatenated (lists r))))
 only_differ R lists (Ok r) one all = one_list R (lists r) one all
 only_differ R lists (Err e) one all = tt

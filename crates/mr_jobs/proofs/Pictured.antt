@@ -33,10 +33,12 @@ module _ (bytes : List ℕ) where
         by None k = refl
         by (Some f) k = absurd (cc)
 
-    pub of_bitmap_fault : (f : BitmapFault) → Err f ≡ bitmap_of bytes → refused status.Input (bitmap_line number f) ≡ pictured number (bitmap_fault_of bytes) next
+    pub of_bitmap_fault : (f : BitmapFault) → Err f ≡ bitmap_of bytes
+        → refused status.Input (bitmap_line number f) ≡ pictured number (bitmap_fault_of bytes) next
     of_bitmap_fault f e = by (bitmap_fault_of bytes) e
       where
-        by : (fault : Option BitmapFault) → Err f ≡ option_map_or Err fault (Ok whole) → refused status.Input (bitmap_line number f) ≡ pictured number fault next
+        by : (fault : Option BitmapFault) → Err f ≡ option_map_or Err fault (Ok whole)
+            → refused status.Input (bitmap_line number f) ≡ pictured number fault next
         by None k = absurd (cc)
         by (Some g) k = let same : f ≡ g = cc in ap (λ x. refused status.Input (bitmap_line number x)) same
 

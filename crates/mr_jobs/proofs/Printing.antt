@@ -40,8 +40,10 @@ use Rattle.mr_report.specs.declared.printing.Share.{Share}
 abbrev IsSmall : ℕ → ℕ → List (List Work) → Type 0
 IsSmall most workers rounds = (length rounds ≤ most) × AllByRecursion (λ works. length works ≡ workers) rounds
 
-module _ {K V : Type 0} (R : K → K → Ordering) (inside : K → Bool) {S : Type 0} (workers tasks : ℕ) (emits : S → ℕ → List (Emission K V)) where
-  as_many : (states : List S) (rounds : List (List Work)) → AreLawfulRounds R inside workers tasks emits states rounds → IsSmall (length states) workers rounds
+module _ {K V : Type 0} (R : K → K → Ordering) (inside : K → Bool) {S : Type 0} (workers tasks : ℕ)
+    (emits : S → ℕ → List (Emission K V)) where
+  as_many : (states : List S) (rounds : List (List Work)) → AreLawfulRounds R inside workers tasks emits states rounds
+      → IsSmall (length states) workers rounds
   as_many [] [] h = (omega arith, tt)
   as_many [] (works ∷ rounds) h = absurd h
   as_many (s ∷ states) [] h = absurd h
@@ -51,20 +53,25 @@ more : (m n workers : ℕ) (rounds : List (List Work)) → m ≤ n → IsSmall m
 more m n workers rounds le small = (omega (arith, le, small.0), small.1)
 
 -- no more states than the number that bounds them
-module _ {K V S : Type 0} (R : K → K → Ordering) (inside : K → Bool) (shared : Bool) (folded : List V → Option Answer) (emissions : S → List (Emission K V)) (next : S → List (Row K) → Next S) where
-  after_next : (n : ℕ) (rest : S → List S) → ((s : S) → length (rest s) ≤ n) → (x : Next S) → length (states_of_next R inside shared folded emissions next rest x) ≤ n
+module _ {K V S : Type 0} (R : K → K → Ordering) (inside : K → Bool) (shared : Bool) (folded : List V → Option Answer)
+    (emissions : S → List (Emission K V)) (next : S → List (Row K) → Next S) where
+  after_next : (n : ℕ) (rest : S → List S) → ((s : S) → length (rest s) ≤ n) → (x : Next S)
+      → length (states_of_next R inside shared folded emissions next rest x) ≤ n
   after_next n rest few (again s) = few s
   after_next n rest few (ended text) = omega arith
 
-  after_round : (n : ℕ) (rest : S → List S) → ((s : S) → length (rest s) ≤ n) → (s : S) (r : Result (List (Row K)) (Fault K)) → length (states_after R inside shared folded emissions next rest s r) ≤ n
+  after_round : (n : ℕ) (rest : S → List S) → ((s : S) → length (rest s) ≤ n) → (s : S) (r : Result (List (Row K)) (Fault K))
+      → length (states_after R inside shared folded emissions next rest s r) ≤ n
   after_round n rest few s (Ok rows) = after_next n rest few (next s rows)
   after_round n rest few s (Err f) = omega arith
 
   few_states : (n : ℕ) (s : S) → length (states_of R inside shared folded emissions next n s) ≤ n
   few_states zero s = omega arith
-  few_states (suc n) s = let rest = after_round n (states_of R inside shared folded emissions next n) (few_states n) s (round_of R inside shared folded (emissions s)) in omega (arith, rest)
+  few_states (suc n) s = let rest = after_round n (states_of R inside shared folded emissions next n) (few_states n) s
+      (round_of R inside shared folded (emissions s)) in omega (arith, rest)
 
-of_grid : {P : Type 0} (is : List (List ℤ) → Type 0) (r : Result (List (List ℤ)) GridFault) → ((grid : List (List ℤ)) → is grid → P) → OfGrid is r → P
+of_grid : {P : Type 0} (is : List (List ℤ) → Type 0) (r : Result (List (List ℤ)) GridFault) → ((grid : List (List ℤ)) → is grid → P)
+    → OfGrid is r → P
 of_grid is (Ok grid) step h = step grid h
 of_grid is (Err f) step h = absurd h
 
@@ -72,15 +79,18 @@ module _ (j : SeenJob) (inputs : List (List ℕ)) (workers : ℕ) (few : j.round
   abbrev Small : Type 0
   Small = IsSmall most_rounds workers rounds
 
-  once : {K V : Type 0} (R : K → K → Ordering) (inside : K → Bool) (tasks : ℕ) (emits : ℕ → List (Emission K V)) → AreLawfulRounds R inside {S = Unit {0}} workers tasks (λ s. emits) (tt ∷ []) rounds → Small
-  once R inside tasks emits h = more 1 most_rounds workers rounds (omega arith) (as_many R inside {S = Unit {0}} workers tasks (λ s. emits) (tt ∷ []) rounds h)
+  once : {K V : Type 0} (R : K → K → Ordering) (inside : K → Bool) (tasks : ℕ) (emits : ℕ → List (Emission K V))
+      → AreLawfulRounds R inside {S = Unit {0}} workers tasks (λ s. emits) (tt ∷ []) rounds → Small
+  once R inside tasks emits h = more 1 most_rounds workers rounds (omega arith)
+      (as_many R inside {S = Unit {0}} workers tasks (λ s. emits) (tt ∷ []) rounds h)
 
   lines : (k : KeyKind) → Lines j inputs workers rounds k → Small
   lines keys.Bytes h = once _ _ _ _ h
   lines keys.Numbers h = once _ _ _ _ h
 
   spans : (count : ℕ) (emits : ℕ → List (Emission ℕ ℤ)) → Spans j inputs workers rounds count emits → Small
-  spans count emits h = once nat_cmp (inside_of j.container j.capacity) (length (spans_of j.chunk count)) (task_at emits (range_with_len 0 count) (spans_of j.chunk count)) h
+  spans count emits h = once nat_cmp (inside_of j.container j.capacity) (length (spans_of j.chunk count))
+      (task_at emits (range_with_len 0 count) (spans_of j.chunk count)) h
 
   moves : (points : List (List ℤ)) → Moves j inputs workers rounds points → Small
   moves points h =
@@ -88,7 +98,9 @@ module _ (j : SeenJob) (inputs : List (List ℕ)) (workers : ℕ) (few : j.round
       let cut = spans_of j.chunk (length points) in
       let first = kmeans_first j.clusters j.rounds points in
       more j.rounds most_rounds workers rounds few
-      (more (length (states_of nat_cmp inside false vecsum_folded (λ s. kmeans_emissions s.means points) kmeans_next j.rounds first)) j.rounds workers rounds (few_states nat_cmp inside false vecsum_folded (λ s. kmeans_emissions s.means points) kmeans_next j.rounds first)
+      (more (length (states_of nat_cmp inside false vecsum_folded (λ s. kmeans_emissions s.means points) kmeans_next j.rounds first))
+      j.rounds workers rounds (few_states nat_cmp inside false vecsum_folded
+      (λ s. kmeans_emissions s.means points) kmeans_next j.rounds first)
       (as_many nat_cmp inside workers (length cut) (λ s. task_at (kmeans_emits s.means points) (range_with_len 0 (length points)) cut)
       (states_of nat_cmp inside false vecsum_folded (λ s. kmeans_emissions s.means points) kmeans_next j.rounds first) rounds h))
 
@@ -98,8 +110,10 @@ module _ (j : SeenJob) (inputs : List (List ℕ)) (workers : ℕ) (few : j.round
       let cut = spans_of j.chunk (length grid) in
       let fold = folded j.combiner j.reducer in
       more 2 most_rounds workers rounds (omega arith)
-      (more (length (states_of nat_cmp inside false fold (pca_emissions grid) (pca_next grid) 2 columns)) 2 workers rounds (few_states nat_cmp inside false fold (pca_emissions grid) (pca_next grid) 2 columns)
-      (as_many nat_cmp inside workers (length cut) (λ s. task_at (pca_emits grid s) (range_with_len 0 (length grid)) cut) (states_of nat_cmp inside false fold (pca_emissions grid) (pca_next grid) 2 columns) rounds h))
+      (more (length (states_of nat_cmp inside false fold (pca_emissions grid) (pca_next grid) 2 columns)) 2 workers rounds
+      (few_states nat_cmp inside false fold (pca_emissions grid) (pca_next grid) 2 columns)
+      (as_many nat_cmp inside workers (length cut) (λ s. task_at (pca_emits grid s) (range_with_len 0 (length grid)) cut)
+      (states_of nat_cmp inside false fold (pca_emissions grid) (pca_next grid) 2 columns) rounds h))
 
   small : (k : JobKind) → IsLawfulOf j inputs workers rounds k → Small
   small kind.WordCount h = once _ _ _ _ h
@@ -107,14 +121,19 @@ module _ (j : SeenJob) (inputs : List (List ℕ)) (workers : ℕ) (few : j.round
   small kind.InvertedIndex h = once _ _ _ _ h
   small kind.StringMatch h = once _ _ _ _ h
   small kind.Histogram h = spans _ _ h
-  small kind.LinearRegression h = of_grid (λ grid. Spans j inputs workers rounds (length grid) (linear_regression_emits grid)) (grid_of (slice_index_or inputs 0 [])) (λ grid h. spans (length grid) (linear_regression_emits grid) h) h
+  small kind.LinearRegression h = of_grid (λ grid. Spans j inputs workers rounds (length grid) (linear_regression_emits grid))
+      (grid_of (slice_index_or inputs 0 [])) (λ grid h. spans (length grid) (linear_regression_emits grid) h) h
   small kind.MatrixProduct h =
-      of_grid (λ left. OfGrid (λ right. Spans j inputs workers rounds (length left * columns_of right) (matrix_product_emits left right)) (grid_of (slice_index_or inputs 1 []))) (grid_of (slice_index_or inputs 0 []))
-      (λ left h. of_grid (λ right. Spans j inputs workers rounds (length left * columns_of right) (matrix_product_emits left right)) (grid_of (slice_index_or inputs 1 [])) (λ right h. spans (length left * columns_of right) (matrix_product_emits left right) h) h) h
+      of_grid (λ left. OfGrid (λ right. Spans j inputs workers rounds (length left * columns_of right) (matrix_product_emits left right))
+      (grid_of (slice_index_or inputs 1 []))) (grid_of (slice_index_or inputs 0 []))
+      (λ left h. of_grid (λ right. Spans j inputs workers rounds (length left * columns_of right) (matrix_product_emits left right))
+      (grid_of (slice_index_or inputs 1 [])) (λ right h. spans (length left * columns_of right) (matrix_product_emits left right) h) h)
+      h
   small kind.KMeans h = of_grid (Moves j inputs workers rounds) (grid_of (slice_index_or inputs 0 [])) moves h
   small kind.Pca h = of_grid (Passes j inputs workers rounds) (grid_of (slice_index_or inputs 0 [])) passes h
 
-each_printable : (workers : ℕ) (rounds : List (Spared Share)) → workers ≤ 32 → AllByRecursion (λ works. length works ≡ workers) (rounds_seen rounds) → All (λ round. length round.items < 2 ^ 32) rounds
+each_printable : (workers : ℕ) (rounds : List (Spared Share)) → workers ≤ 32
+    → AllByRecursion (λ works. length works ≡ workers) (rounds_seen rounds) → All (λ round. length round.items < 2 ^ 32) rounds
 each_printable workers [] few h = All-nil (λ round. length round.items < 2 ^ 32)
 each_printable workers (r ∷ rs) few h =
     let count = sym (length-map r.items work_of) ∙ h.0 in
@@ -125,7 +144,8 @@ few_rounds true n h = grind (arith, nat_tests, h)
 few_rounds false n h = grind (arith, nat_tests, h)
 
 -- the report of a job by 32 workers at most can be printed
-pub printable : {E : Type 0} (j : SeenJob) (inputs : List (List ℕ)) (workers : ℕ) (has : Bool) → workers ≤ 32 → is_count_of has most_rounds j.rounds ≡ true → (result : Result Output E)
+pub printable : {E : Type 0} (j : SeenJob) (inputs : List (List ℕ)) (workers : ℕ) (has : Bool) → workers ≤ 32
+    → is_count_of has most_rounds j.rounds ≡ true → (result : Result Output E)
     → IfOk result (λ o. IsLawfulReport j inputs workers (rounds_seen o.rounds.items)) → IfOk result IsPrintable
 printable j inputs workers has few some (Ok o) lawful =
     let is = small j inputs workers (few_rounds has j.rounds some) (rounds_seen o.rounds.items) j.job lawful in

@@ -13,7 +13,8 @@ use Rattle.mr_items.specs.Report.{Work}
 use Rattle.mr_jobs.specs.Shares.{AreShares, IsLawfulRound}
 
 -- one more, of which as much is seen as of the next of a list
-pub one_more : {A B W : Type 0} (f : A → W) (g : B → W) (done more : List A) (x : A) (ys : List B) (i : ℕ) (y : B) → slice_get ys i ≡ Some y → f x ≡ g y → more ≡ done ++ x ∷ []
+pub one_more : {A B W : Type 0} (f : A → W) (g : B → W) (done more : List A) (x : A) (ys : List B) (i : ℕ) (y : B) → slice_get ys i ≡ Some y
+    → f x ≡ g y → more ≡ done ++ x ∷ []
     → map f done ≡ map g (take i ys) → map f more ≡ map g (take (i + 1) ys)
 one_more f g done more x ys i y at same pushed so_far =
     ap (map f) pushed ∙ map-append f done (x ∷ []) ∙ ap (λ w. map f done ++ w ∷ []) same ∙ ap (λ ws. ws ++ g y ∷ []) so_far
@@ -32,8 +33,10 @@ module _ {B : Type 0} (tasks : B → List ℕ) (cells : B → ℕ) where
   flat_seen (y ∷ ys) = ap (λ l. tasks y ++ l) (flat_seen ys)
 
   -- what the workers have makes a lawful round
-  pub lawful : {K V : Type 0} (R : K → K → Ordering) (inside : K → Bool) (emits : ℕ → List (Emission K V)) (workers n : ℕ) (ys : List B) (works : List Work) → works ≡ map (λ y. (tasks y, cells y)) ys → length ys ≡ workers
-      → IsPermutation (range_with_len 0 n) (flat_map tasks ys) → AreShares R inside emits works → IsLawfulRound R inside workers n emits works
+  pub lawful : {K V : Type 0} (R : K → K → Ordering) (inside : K → Bool) (emits : ℕ → List (Emission K V)) (workers n : ℕ) (ys : List B)
+      (works : List Work) → works ≡ map (λ y. (tasks y, cells y)) ys → length ys ≡ workers
+      → IsPermutation (range_with_len 0 n) (flat_map tasks ys) → AreShares R inside emits works
+      → IsLawfulRound R inside workers n emits works
   lawful R inside emits workers n ys works seen count once shares = record {
     count = ap length seen ∙ length-map ys (λ y. (tasks y, cells y)) ∙ count;
     once = subst (IsPermutation (range_with_len 0 n)) (sym (ap (flat_map (λ (w : Work). w.0)) seen ∙ flat_seen ys)) once;

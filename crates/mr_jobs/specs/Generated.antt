@@ -21,5 +21,6 @@ written_text (written.Summary input) print = λ rows. summary input (length rows
 -- the words of a text are counted, and the summary of their rows is written
 abbrev pub generated_ending : SeenJob → List ℕ → Ending
 generated_ending j text =
-    ended_by shown_text (one_round_of byte_order all_inside false (folded j.combiner j.reducer) (written_text (written.Summary (length text)) (λ k. k))
+    ended_by shown_text (one_round_of byte_order all_inside false (folded j.combiner j.reducer)
+    (written_text (written.Summary (length text)) (λ k. k))
     (word_count_emissions text))

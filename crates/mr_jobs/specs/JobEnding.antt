@@ -75,7 +75,8 @@ module _ (j : SeenJob) where
   -- a job of one round whose keys are numbers, with this text of its rows
   abbrev pub number_keys : (List (Row ℕ) → List ℕ) → List (Emission ℕ ℤ) → Ending
   number_keys text es =
-      ended_by decimal (one_round_of nat_cmp (inside_of j.container j.capacity) (is_shared j.container) (folded j.combiner j.reducer) text es)
+      ended_by decimal (one_round_of nat_cmp (inside_of j.container j.capacity) (is_shared j.container)
+      (folded j.combiner j.reducer) text es)
 
   -- the lines of a text by the kind of their keys
   abbrev pub lines_ending : KeyKind → List ℕ → Ending
@@ -93,13 +94,15 @@ module _ (j : SeenJob) where
   abbrev pub kmeans_ending : List (List ℤ) → Ending
   kmeans_ending points =
       shaped 1 (is_kmeans_shape j.clusters points)
-      (ended_by decimal (rounds_of nat_cmp (inside_of j.container j.capacity) false vecsum_folded (λ s. kmeans_emissions s.means points) kmeans_next
+      (ended_by decimal (rounds_of nat_cmp (inside_of j.container j.capacity) false vecsum_folded
+      (λ s. kmeans_emissions s.means points) kmeans_next
       j.rounds (kmeans_first j.clusters j.rounds points)))
 
   -- the means of the columns, then how they vary together
   abbrev pub pca_ending : List (List ℤ) → Ending
   pca_ending grid =
-      ended_by decimal (rounds_of nat_cmp (inside_of j.container j.capacity) false (folded j.combiner j.reducer) (pca_emissions grid) (pca_next grid)
+      ended_by decimal (rounds_of nat_cmp (inside_of j.container j.capacity) false (folded j.combiner j.reducer) (pca_emissions grid)
+      (pca_next grid)
       2 columns)
 
   module _ (inputs : List (List ℕ)) where

@@ -48,10 +48,12 @@ module _ (j : SeenJob) (inputs : List (List ℕ)) (workers : ℕ) (rounds : List
 
   -- the only round over the pieces of a text, at ends of lines, with byte keys and with number keys
   abbrev ByteLines : (ℕ → List (Emission (List ℕ) ℤ)) → Type 0
-  ByteLines emits = AreOnlyRound byte_order all_inside workers emits (line_places input) (pieces_of (is_line_boundary input) j.chunk (length input)) rounds
+  ByteLines emits = AreOnlyRound byte_order all_inside workers emits (line_places input)
+      (pieces_of (is_line_boundary input) j.chunk (length input)) rounds
 
   abbrev NumberLines : (ℕ → List (Emission ℕ ℤ)) → Type 0
-  NumberLines emits = AreOnlyRound nat_cmp (inside_of j.container j.capacity) workers emits (line_places input) (pieces_of (is_line_boundary input) j.chunk (length input)) rounds
+  NumberLines emits = AreOnlyRound nat_cmp (inside_of j.container j.capacity) workers emits (line_places input)
+      (pieces_of (is_line_boundary input) j.chunk (length input)) rounds
 
   abbrev pub Lines : KeyKind → Type 0
   Lines keys.Bytes = ByteLines (fold_lines_emits bytes_key input)
@@ -59,29 +61,36 @@ module _ (j : SeenJob) (inputs : List (List ℕ)) (workers : ℕ) (rounds : List
 
   -- the only round over spans of so many items
   abbrev pub Spans : ℕ → (ℕ → List (Emission ℕ ℤ)) → Type 0
-  Spans count emits = AreOnlyRound nat_cmp (inside_of j.container j.capacity) workers emits (range_with_len 0 count) (spans_of j.chunk count) rounds
+  Spans count emits = AreOnlyRound nat_cmp (inside_of j.container j.capacity) workers emits (range_with_len 0 count)
+      (spans_of j.chunk count) rounds
 
   -- the rounds of k-means over spans of its points, and the passes over spans of a grid's rows
   abbrev pub Moves : List (List ℤ) → Type 0
   Moves points =
       let spans = spans_of j.chunk (length points) in
-      AreLawfulRounds nat_cmp (inside_of j.container j.capacity) workers (length spans) (λ s. task_at (kmeans_emits s.means points) (range_with_len 0 (length points)) spans)
-      (states_of nat_cmp (inside_of j.container j.capacity) false vecsum_folded (λ s. kmeans_emissions s.means points) kmeans_next j.rounds (kmeans_first j.clusters j.rounds points)) rounds
+      AreLawfulRounds nat_cmp (inside_of j.container j.capacity) workers (length spans)
+      (λ s. task_at (kmeans_emits s.means points) (range_with_len 0 (length points)) spans)
+      (states_of nat_cmp (inside_of j.container j.capacity) false vecsum_folded (λ s. kmeans_emissions s.means points) kmeans_next j.rounds
+      (kmeans_first j.clusters j.rounds points)) rounds
 
   abbrev pub Passes : List (List ℤ) → Type 0
   Passes grid =
       let spans = spans_of j.chunk (length grid) in
-      AreLawfulRounds nat_cmp (inside_of j.container j.capacity) workers (length spans) (λ s. task_at (pca_emits grid s) (range_with_len 0 (length grid)) spans)
-      (states_of nat_cmp (inside_of j.container j.capacity) false (folded j.combiner j.reducer) (pca_emissions grid) (pca_next grid) 2 columns) rounds
+      AreLawfulRounds nat_cmp (inside_of j.container j.capacity) workers (length spans)
+      (λ s. task_at (pca_emits grid s) (range_with_len 0 (length grid)) spans)
+      (states_of nat_cmp (inside_of j.container j.capacity) false (folded j.combiner j.reducer) (pca_emissions grid)
+      (pca_next grid) 2 columns) rounds
 
   abbrev pub IsLawfulOf : JobKind → Type 0
-  IsLawfulOf job.WordCount = AreOnlyRound byte_order all_inside workers (word_count_emits input) (word_places input) (pieces_of (is_word_boundary input) j.chunk (length input)) rounds
+  IsLawfulOf job.WordCount = AreOnlyRound byte_order all_inside workers (word_count_emits input) (word_places input)
+      (pieces_of (is_word_boundary input) j.chunk (length input)) rounds
   IsLawfulOf job.FoldLines = Lines j.keys
   IsLawfulOf job.InvertedIndex = ByteLines (inverted_index_emits input)
   IsLawfulOf job.StringMatch = NumberLines (string_match_emits j.patterns input)
   IsLawfulOf job.Histogram = Spans (pixel_rows input) (histogram_emits input)
   IsLawfulOf job.LinearRegression = OfGrid (λ grid. Spans (length grid) (linear_regression_emits grid)) (grid_of input)
-  IsLawfulOf job.MatrixProduct = OfGrid (λ left. OfGrid (λ right. Spans (length left * columns_of right) (matrix_product_emits left right)) (grid_of (slice_index_or inputs 1 []))) (grid_of input)
+  IsLawfulOf job.MatrixProduct = OfGrid (λ left. OfGrid (λ right. Spans (length left * columns_of right) (matrix_product_emits left right))
+      (grid_of (slice_index_or inputs 1 []))) (grid_of input)
   IsLawfulOf job.KMeans = OfGrid Moves (grid_of input)
   IsLawfulOf job.Pca = OfGrid Passes (grid_of input)
 

@@ -4,4 +4,6 @@ pub mod Shares
 pub mod JobEnding
 pub mod LawfulReport
 pub mod Generated
+pub mod Outcomes
+pub mod Passes
 pub mod Printable

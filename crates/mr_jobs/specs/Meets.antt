@@ -1,5 +1,5 @@
 -- Code that gives what a definition does, or wants memory.
-use Rattle.std.specs.Prelude.{◌≡◌, ℕ, List, IsTrue, Ok, Err}
+use Rattle.std.specs.Prelude.{◌≡◌, List, IsTrue, Ok, Err}
 use Rattle.std.specs.declared.result.Result.{Result}
 use Rattle.mr_base.specs.declared.Stop.{Stop}
 use Rattle.mr_base.specs.declared.Stop.TheVariants as stop
@@ -23,7 +23,7 @@ IsOfInputs (Ok b) = Unit {0}
 IsOfInputs (Err (stop.Refused r)) = IsTrue (is_of_inputs r.status)
 IsOfInputs (Err stop.Memory) = Unit {0}
 
--- the text of rows that passed, or the fault
-abbrev pub texted : {K : Type 0} → (List (Row K) → List ℕ) → Result (List (Row K)) (Fault K) → Result (List ℕ) (Fault K)
+-- what is made of rows that passed, or the fault
+abbrev pub texted : {A K : Type 0} → (List (Row K) → A) → Result (List (Row K)) (Fault K) → Result A (Fault K)
 texted text (Ok rows) = Ok (text rows)
 texted text (Err f) = Err f

@@ -2,12 +2,13 @@
 use Rattle.std.specs.Prelude.{◌≡◌, ℕ, Bool, List, [], ◌∷◌, All, Ok, Err, length, flat_map, slice_index_or}
 use Rattle.std.specs.List.{range_with_len}
 use Rattle.std.specs.List.Sorted.{IsPermutation}
+use Rattle.std.specs.Ordering.{nat_cmp}
 use Rattle.std.specs.declared.cmp.Ordering.{Ordering}
 use Rattle.std.specs.declared.result.Result.{Result}
 use Rattle.mr_base.specs.Spare.{Spared}
 use Rattle.mr_defs.specs.Emission.{Emission}
 use Rattle.mr_defs.specs.Rows.{cells_of}
-use Rattle.mr_defs.specs.Tasks.{Stretch, task_emissions}
+use Rattle.mr_defs.specs.Tasks.{Stretch, spans_of, task_emissions}
 use Rattle.mr_items.specs.Report.{Work}
 use Rattle.mr_jobs.specs.declared.phases.Round.{Round}
 use Rattle.mr_report.specs.declared.printing.Share.{Share}
@@ -28,15 +29,23 @@ module _ {K V : Type 0} (R : K → K → Ordering) (inside : K → Bool) where
   AreLawfulRounds workers tasks emits [] [] = Unit {0}
   AreLawfulRounds workers tasks emits [] (works ∷ rounds) = ⊥
   AreLawfulRounds workers tasks emits (s ∷ states) [] = ⊥
-  AreLawfulRounds workers tasks emits (s ∷ states) (works ∷ rounds) = IsLawfulRound workers tasks (emits s) works × AreLawfulRounds workers tasks emits states rounds
+  AreLawfulRounds workers tasks emits (s ∷ states) (works ∷ rounds) =
+      IsLawfulRound workers tasks (emits s) works × AreLawfulRounds workers tasks emits states rounds
 
 -- what the task with a number emits, where the items are cut into these stretches
 abbrev pub task_at : {E : Type 0} → (ℕ → List E) → List ℕ → List Stretch → ℕ → List E
 task_at emits items stretches t = task_emissions emits items (slice_index_or stretches t (0, 0))
 
+-- so many workers took each span of so many items once, which stand under number keys
+abbrev pub IsSpanRound : {V : Type 0} → (ℕ → Bool) → ℕ → ℕ → ℕ → (ℕ → List (Emission ℕ V)) → List Work → Type 0
+IsSpanRound inside workers chunk count emits =
+    IsLawfulRound nat_cmp inside workers (length (spans_of chunk count)) (task_at emits (range_with_len 0 count) (spans_of chunk count))
+
 -- the only round of a job whose items are cut into these stretches
-abbrev pub AreOnlyRound : {K V : Type 0} → (K → K → Ordering) → (K → Bool) → ℕ → (ℕ → List (Emission K V)) → List ℕ → List Stretch → List (List Work) → Type 0
-AreOnlyRound R inside workers emits items stretches = AreLawfulRounds R inside {S = Unit {0}} workers (length stretches) (λ s. task_at emits items stretches) (tt ∷ [])
+abbrev pub AreOnlyRound : {K V : Type 0} → (K → K → Ordering) → (K → Bool) → ℕ → (ℕ → List (Emission K V)) → List ℕ → List Stretch
+    → List (List Work) → Type 0
+AreOnlyRound R inside workers emits items stretches = AreLawfulRounds R inside {S = Unit {0}} workers (length stretches)
+    (λ s. task_at emits items stretches) (tt ∷ [])
 
 -- the only round of an output is this one, which passed
 abbrev pub HasShares : {K E : Type 0} → Result (Round K) E → List (Spared Share) → Type 0

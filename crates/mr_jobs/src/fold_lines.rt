@@ -1,4 +1,5 @@
-ghost use Rattle.std.specs.Prelude.{◌≡◌, ◌≤◌, All, IfOk, decimal, false, length};
+ghost use Rattle.std.specs.Prelude.{◌≡◌, ◌≤◌, All, IfOk, decimal, false, flat_map, length};
+ghost use Rattle.std.specs.List.{range_with_len};
 ghost use Rattle.std.specs.Ordering.{nat_cmp};
 ghost use Rattle.mr_capacity.specs.Folds.{folded};
 ghost use Rattle.mr_capacity.specs.declared.kinds.JobKind.TheVariants as kind;
@@ -14,21 +15,24 @@ ghost use Rattle.mr_jobs.specs.Ending.{ended_by};
 ghost use Rattle.mr_jobs.specs.JobEnding.{input_limit, inside_of, is_shared, job_ending};
 ghost use Rattle.mr_jobs.specs.LawfulReport.{IsLawfulReport};
 ghost use Rattle.mr_jobs.specs.Meets.{IsOfInputs, MeetsSeen, texted};
-ghost use Rattle.mr_jobs.specs.Shares.{AreOnlyRound};
-ghost use Rattle.mr_report.specs.Shown.{rounds_seen};
+ghost use Rattle.mr_jobs.specs.Shares.{AreOnlyRound, IsLawfulRound};
+ghost use Rattle.mr_report.specs.Shown.{rounds_seen, workers_of};
 ghost use Rattle.mr_split.specs.Pieces.{ArePieces};
 ghost use Rattle.mr_split.specs.declared.boundary.Boundary.{Boundary};
 
 use crate::output::{Output, first_input, rows_output};
+use crate::phases::Round;
 use crate::refusal::Refusal;
-use crate::round::{hash_round, number_round};
+use crate::round::{hash_round, own_round};
+use crate::shared::once_round;
 use crate::workers::Workers;
-use mr_base::Stop;
-use mr_capacity::{CombinerKind, ContainerKind, KeyKind, ReducerKind, at_combiner, at_reducer};
+use mr_base::{Fault, NumKey, Stop};
+use mr_capacity::{CombinerKind, KeyKind, ReducerKind, at_combiner, at_reducer};
 use mr_combine::{
     And, Both, Buffer, Combiner, Count, Distinct, List, Max, Median, Min, One, Or, Plain, Reducer,
     Sum, Xor,
 };
+use mr_container::Mapper;
 use mr_jobfile::Job;
 use mr_lines::{FoldBytes, FoldNumbers};
 use mr_outside::{Gate, Taken};
@@ -54,7 +58,8 @@ where
     requires pieces { ArePieces Boundary.Line input.now pieces.now }
     requires few { length pieces.now ≤ 1048576 }
     ensures ending { MeetsSeen (λ o. o.text) (ended_by shown_text (texted (rows_text (λ k. k))
-        (round_of byte_order all_inside false (folded job.now.combiner job.now.reducer) (fold_lines_emissions bytes_key input.now)))) result }
+        (round_of byte_order all_inside false (folded job.now.combiner job.now.reducer) (fold_lines_emissions bytes_key input.now))))
+        result }
     ensures of_inputs { IsOfInputs result }
     ensures shares { IfOk result (λ o. AreOnlyRound byte_order all_inside workers.now.count
         (fold_lines_emits bytes_key input.now) (line_places input.now) pieces.now (rounds_seen o.rounds.items)) }
@@ -78,7 +83,8 @@ fn byte_lines<'a, T: Threads + Sync, G: Gate + Sync>(
     requires pieces { ArePieces Boundary.Line input.now pieces.now }
     requires few { length pieces.now ≤ 1048576 }
     ensures ending { MeetsSeen (λ o. o.text) (ended_by shown_text (texted (rows_text (λ k. k))
-        (round_of byte_order all_inside false (folded job.now.combiner job.now.reducer) (fold_lines_emissions bytes_key input.now)))) result }
+        (round_of byte_order all_inside false (folded job.now.combiner job.now.reducer) (fold_lines_emissions bytes_key input.now))))
+        result }
     ensures of_inputs { IsOfInputs result }
     ensures shares { IfOk result (λ o. AreOnlyRound byte_order all_inside workers.now.count
         (fold_lines_emits bytes_key input.now) (line_places input.now) pieces.now (rounds_seen o.rounds.items)) }
@@ -93,40 +99,33 @@ fn byte_lines<'a, T: Threads + Sync, G: Gate + Sync>(
     }
 }
 
-// The lines of an input that is cut into these pieces, with number keys and values combined so.
-fn folded_numbers<
-    'a,
-    T: Threads + Sync,
-    G: Gate + Sync,
-    C: Combiner<Value = i64> + Send + Sync,
-    R: Reducer<C> + Send,
->(
+// A round of these lines with number keys, in the containers that the job has and with values combined as it says.
+fn number_rows<T: Threads + Sync, G: Gate + Sync, M: Mapper<Key = NumKey, Value = i64> + Sync>(
     workers: &Workers<T, G>,
     job: &Job,
-    input: &'a [u8],
-    pieces: &'a Pieces,
-) -> Result<Output, Stop<Refusal>>
-where
-    C::Cell: Send + Sync,
-    requires own { is_shared job.now.container ≡ false }
-    requires fold { R.folded ≡ folded job.now.combiner job.now.reducer }
-    requires pieces { ArePieces Boundary.Line input.now pieces.now }
-    requires few { length pieces.now ≤ 1048576 }
-    ensures ending { MeetsSeen (λ o. o.text) (ended_by decimal (texted (rows_text decimal)
-        (round_of nat_cmp (inside_of job.now.container job.now.capacity) (is_shared job.now.container) (folded job.now.combiner job.now.reducer)
-        (fold_lines_emissions number_key input.now)))) result }
-    ensures of_inputs { IsOfInputs result }
-    ensures shares { IfOk result (λ o. AreOnlyRound nat_cmp (inside_of job.now.container job.now.capacity) workers.now.count
-        (fold_lines_emits number_key input.now) (line_places input.now) pieces.now (rounds_seen o.rounds.items)) }
+    mapper: &M,
+) -> Result<Round<NumKey>, Stop<Fault<NumKey>>>
+    requires kind { job.now.job ≡ kind.FoldLines }
+    requires keys { job.now.keys ≡ keys.Numbers }
+    requires tasks { M.task_count mapper.now ≤ 1048576 }
+    ensures rows { MeetsSeen (λ r. r.rows) (round_of nat_cmp (inside_of job.now.container job.now.capacity)
+        (is_shared job.now.container) (folded job.now.combiner job.now.reducer)
+        (flat_map (M.task_emissions mapper.now) (range_with_len 0 (M.task_count mapper.now)))) result }
+    ensures shares { IfOk result (λ r. IsLawfulRound nat_cmp (inside_of job.now.container job.now.capacity)
+        workers.now.count (M.task_count mapper.now) (M.task_emissions mapper.now) (workers_of r.shares.items)) }
 {
-    let mapper = FoldNumbers::new(input, pieces);
-    rows_output(
-        workers.alloc,
-        number_round::<T, G, FoldNumbers<'a>, C, R>(workers, job, &mapper),
-    )
+    match job.combiner {
+        CombinerKind::Once => once_round(workers, job, mapper),
+        CombinerKind::Buffer => {
+            at_reducer!(job.reducer, { List, Median, Distinct }, own_round[T, G, M](workers, job, mapper))
+        }
+        _ => {
+            at_combiner!(job.combiner, { Sum, Min, Max, One, Count, And, Or, Xor, MinMax, SumCount }, own_round[T, G, M](workers, job, mapper))
+        }
+    }
 }
 
-// The lines with number keys, whose values are combined as the job says.
+// The lines of an input that is cut into these pieces, with number keys.
 fn number_lines<'a, T: Threads + Sync, G: Gate + Sync>(
     workers: &Workers<T, G>,
     job: &Job,
@@ -135,24 +134,18 @@ fn number_lines<'a, T: Threads + Sync, G: Gate + Sync>(
 ) -> Result<Output, Stop<Refusal>>
     requires kind { job.now.job ≡ kind.FoldLines }
     requires keys { job.now.keys ≡ keys.Numbers }
-    requires own { is_shared job.now.container ≡ false }
     requires pieces { ArePieces Boundary.Line input.now pieces.now }
     requires few { length pieces.now ≤ 1048576 }
     ensures ending { MeetsSeen (λ o. o.text) (ended_by decimal (texted (rows_text decimal)
-        (round_of nat_cmp (inside_of job.now.container job.now.capacity) (is_shared job.now.container) (folded job.now.combiner job.now.reducer)
+        (round_of nat_cmp (inside_of job.now.container job.now.capacity) (is_shared job.now.container)
+        (folded job.now.combiner job.now.reducer)
         (fold_lines_emissions number_key input.now)))) result }
     ensures of_inputs { IsOfInputs result }
     ensures shares { IfOk result (λ o. AreOnlyRound nat_cmp (inside_of job.now.container job.now.capacity) workers.now.count
         (fold_lines_emits number_key input.now) (line_places input.now) pieces.now (rounds_seen o.rounds.items)) }
 {
-    match job.combiner {
-        CombinerKind::Buffer => {
-            at_reducer!(job.reducer, { List, Median, Distinct }, folded_numbers[T, G](workers, job, input, pieces))
-        }
-        _ => {
-            at_combiner!(job.combiner, { Sum, Min, Max, One, Count, And, Or, Xor, MinMax, SumCount }, folded_numbers[T, G](workers, job, input, pieces))
-        }
-    }
+    let mapper = FoldNumbers::new(input, pieces);
+    rows_output(workers.alloc, number_rows(workers, job, &mapper))
 }
 
 /// Runs `fold_lines`: the first field of a line is a key, of bytes or a number as the job says, and the second its value.

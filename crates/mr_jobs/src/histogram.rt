@@ -46,7 +46,8 @@ where
     ensures ending { MeetsSeen (λ o. o.text) (number_keys (seen job.now) (rows_text decimal) (histogram_emissions input.now)) result }
     ensures of_inputs { IsOfInputs result }
     ensures shares { IfOk result (λ o. AreOnlyRound nat_cmp (inside_of job.now.container job.now.capacity) workers.now.count
-        (histogram_emits input.now) (range_with_len 0 (pixel_rows input.now)) (spans_of job.now.chunk (pixel_rows input.now)) (rounds_seen o.rounds.items)) }
+        (histogram_emits input.now) (range_with_len 0 (pixel_rows input.now)) (spans_of job.now.chunk (pixel_rows input.now))
+        (rounds_seen o.rounds.items)) }
 {
     let mapper = Histogram::new(input, bitmap, spans(bitmap.rows as u64, job.chunk));
     rows_output(
@@ -68,7 +69,8 @@ fn combined<T: Threads + Sync, G: Gate + Sync>(
     ensures ending { MeetsSeen (λ o. o.text) (number_keys (seen job.now) (rows_text decimal) (histogram_emissions input.now)) result }
     ensures of_inputs { IsOfInputs result }
     ensures shares { IfOk result (λ o. AreOnlyRound nat_cmp (inside_of job.now.container job.now.capacity) workers.now.count
-        (histogram_emits input.now) (range_with_len 0 (pixel_rows input.now)) (spans_of job.now.chunk (pixel_rows input.now)) (rounds_seen o.rounds.items)) }
+        (histogram_emits input.now) (range_with_len 0 (pixel_rows input.now)) (spans_of job.now.chunk (pixel_rows input.now))
+        (rounds_seen o.rounds.items)) }
 {
     at_combiner!(job.combiner, { Sum, Count, One }, counted[T, G](workers, job, input, bitmap))
 }

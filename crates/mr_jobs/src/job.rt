@@ -9,9 +9,11 @@ ghost use Rattle.mr_report.specs.Shown.{rounds_seen};
 use crate::fold_lines::fold_lines;
 use crate::histogram::histogram;
 use crate::inverted_index::inverted_index;
+use crate::kmeans::kmeans;
 use crate::linear_regression::linear_regression;
 use crate::matrix_product::matrix_product;
 use crate::output::Output;
+use crate::pca::pca;
 use crate::refusal::Refusal;
 use crate::string_match::string_match;
 use crate::word_count::word_count;
@@ -53,6 +55,7 @@ pub fn run_job<T: Threads + Sync, G: Gate + Sync>(
         JobKind::Histogram => histogram(workers, job, inputs),
         JobKind::LinearRegression => linear_regression(workers, job, inputs),
         JobKind::MatrixProduct => matrix_product(workers, job, inputs),
-        _ => unreachable!(),
+        JobKind::KMeans => kmeans(workers, job, inputs),
+        JobKind::Pca => pca(workers, job, inputs),
     }
 }

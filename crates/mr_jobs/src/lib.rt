@@ -12,12 +12,16 @@ mod histogram;
 mod input;
 mod inverted_index;
 mod job;
+mod kmeans;
 mod linear_regression;
 mod matrix_product;
 mod output;
+mod pca;
 mod phases;
 mod refusal;
 mod round;
+mod rounds;
+mod shared;
 mod string_match;
 #[cfg(test)]
 mod tests;

@@ -39,7 +39,8 @@ fn sums<T: Threads + Sync, G: Gate + Sync>(
     requires own { is_shared job.now.container ≡ false }
     requires shape { items.is_regression_shape grid.now ≡ true }
     requires few { length grid.now ≤ input_limit }
-    ensures rows { MeetsSeen (λ r. r.rows) (round_of nat_cmp (inside_of job.now.container job.now.capacity) (is_shared job.now.container) sum_folded
+    ensures rows { MeetsSeen (λ r. r.rows) (round_of nat_cmp (inside_of job.now.container job.now.capacity)
+        (is_shared job.now.container) sum_folded
         (items.linear_regression_emissions grid.now)) result }
     ensures shares { IfOk result (λ r. IsLawfulRound nat_cmp (inside_of job.now.container job.now.capacity) workers.now.count
         (length (spans_of job.now.chunk (length grid.now)))
@@ -60,10 +61,12 @@ fn line_text<T: Threads + Sync, G: Gate + Sync>(
     requires shape { items.is_regression_shape grid.now ≡ true }
     requires few { length grid.now ≤ input_limit }
     ensures ending { MeetsSeen (λ o. o.text) (ended_by decimal (texted items.regression_text
-        (round_of nat_cmp (inside_of job.now.container job.now.capacity) (is_shared job.now.container) sum_folded (items.linear_regression_emissions grid.now)))) result }
+        (round_of nat_cmp (inside_of job.now.container job.now.capacity) (is_shared job.now.container) sum_folded
+        (items.linear_regression_emissions grid.now)))) result }
     ensures of_inputs { IsOfInputs result }
     ensures shares { IfOk result (λ o. AreOnlyRound nat_cmp (inside_of job.now.container job.now.capacity) workers.now.count
-        (items.linear_regression_emits grid.now) (range_with_len 0 (length grid.now)) (spans_of job.now.chunk (length grid.now)) (rounds_seen o.rounds.items)) }
+        (items.linear_regression_emits grid.now) (range_with_len 0 (length grid.now)) (spans_of job.now.chunk (length grid.now))
+        (rounds_seen o.rounds.items)) }
 {
     match sums(workers, job, grid) {
         Ok(Round { rows, shares }) => {
@@ -87,7 +90,8 @@ fn line_through<T: Threads + Sync, G: Gate + Sync>(
     ensures ending { MeetsSeen (λ o. o.text) (regression_ending (seen job.now) grid.now) result }
     ensures of_inputs { IsOfInputs result }
     ensures shares { IfOk result (λ o. AreOnlyRound nat_cmp (inside_of job.now.container job.now.capacity) workers.now.count
-        (items.linear_regression_emits grid.now) (range_with_len 0 (length grid.now)) (spans_of job.now.chunk (length grid.now)) (rounds_seen o.rounds.items)) }
+        (items.linear_regression_emits grid.now) (range_with_len 0 (length grid.now)) (spans_of job.now.chunk (length grid.now))
+        (rounds_seen o.rounds.items)) }
 {
     let fits = grid.rows() == 0 || grid.columns() == 2;
     if !fits {

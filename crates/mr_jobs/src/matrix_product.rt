@@ -1,8 +1,9 @@
-ghost use Rattle.std.specs.Prelude.{◌≡◌, ◌≤◌, ◌*◌, All, IfOk, decimal, false, length, true};
+ghost use Rattle.std.specs.Prelude.{◌≡◌, ◌≤◌, ◌*◌, All, IfOk, decimal, flat_map, length, true};
 ghost use Rattle.std.specs.List.{range_with_len};
 ghost use Rattle.std.specs.Ordering.{nat_cmp};
 ghost use Rattle.mr_capacity.specs.Folds.{folded};
 ghost use Rattle.mr_capacity.specs.declared.kinds.JobKind.TheVariants as kind;
+ghost use Rattle.mr_defs.specs.Rounds.{round_of};
 ghost use Rattle.mr_defs.specs.Tasks.{spans_of};
 ghost use Rattle.mr_items.specs.Grid.{columns_of};
 ghost use Rattle.mr_items.specs.MatrixProduct.{is_product_shape, matrix_product_emits, matrix_product_emissions};
@@ -11,17 +12,20 @@ ghost use Rattle.mr_jobfile.specs.Seen.{seen};
 ghost use Rattle.mr_jobs.specs.JobEnding.{input_limit, inside_of, is_shared, job_ending, number_keys, product_ending};
 ghost use Rattle.mr_jobs.specs.LawfulReport.{IsLawfulReport};
 ghost use Rattle.mr_jobs.specs.Meets.{IsOfInputs, MeetsSeen};
-ghost use Rattle.mr_jobs.specs.Shares.{AreOnlyRound};
-ghost use Rattle.mr_report.specs.Shown.{rounds_seen};
+ghost use Rattle.mr_jobs.specs.Shares.{AreOnlyRound, IsLawfulRound};
+ghost use Rattle.mr_report.specs.Shown.{rounds_seen, workers_of};
 
 use crate::input::{grid_input, refused_input};
 use crate::output::{Output, rows_output};
+use crate::phases::Round;
 use crate::refusal::Refusal;
-use crate::round::number_round;
+use crate::round::own_round;
+use crate::shared::once_round;
 use crate::workers::Workers;
-use mr_base::Stop;
+use mr_base::{Fault, NumKey, Stop};
 use mr_capacity::{CombinerKind, at_combiner};
-use mr_combine::{Combiner, Plain, Reducer, Sum};
+use mr_combine::{Plain, Sum};
+use mr_container::Mapper;
 use mr_grid::Grid;
 use mr_jobfile::Job;
 use mr_numeric::Product;
@@ -41,32 +45,49 @@ fn elements(left: &Grid, right: &Grid) -> u64
     left.rows() * right.columns() as u64
 }
 
-// The product of two grids of fitting shapes, combined so.
-fn multiplied<
-    T: Threads + Sync,
-    G: Gate + Sync,
-    C: Combiner<Value = i64> + Send + Sync,
-    R: Reducer<C> + Send,
->(workers: &Workers<T, G>, job: &Job, left: &Grid, right: &Grid) -> Result<Output, Stop<Refusal>>
-where
-    C::Cell: Send + Sync,
-    requires own { is_shared job.now.container ≡ false }
-    requires fold { R.folded ≡ folded job.now.combiner job.now.reducer }
+// A round of the product's elements, in the containers that the job has.
+fn product_rows<T: Threads + Sync, G: Gate + Sync, M: Mapper<Key = NumKey, Value = i64> + Sync>(
+    workers: &Workers<T, G>,
+    job: &Job,
+    mapper: &M,
+) -> Result<Round<NumKey>, Stop<Fault<NumKey>>>
+    requires kind { job.now.job ≡ kind.MatrixProduct }
+    requires tasks { M.task_count mapper.now ≤ 1048576 }
+    ensures rows { MeetsSeen (λ r. r.rows) (round_of nat_cmp (inside_of job.now.container job.now.capacity)
+        (is_shared job.now.container) (folded job.now.combiner job.now.reducer)
+        (flat_map (M.task_emissions mapper.now) (range_with_len 0 (M.task_count mapper.now)))) result }
+    ensures shares { IfOk result (λ r. IsLawfulRound nat_cmp (inside_of job.now.container job.now.capacity)
+        workers.now.count (M.task_count mapper.now) (M.task_emissions mapper.now) (workers_of r.shares.items)) }
+{
+    match job.combiner {
+        CombinerKind::Once => once_round(workers, job, mapper),
+        _ => at_combiner!(job.combiner, { Sum }, own_round[T, G, M](workers, job, mapper)),
+    }
+}
+
+// The product of two grids of fitting shapes.
+fn multiplied<T: Threads + Sync, G: Gate + Sync>(
+    workers: &Workers<T, G>,
+    job: &Job,
+    left: &Grid,
+    right: &Grid,
+) -> Result<Output, Stop<Refusal>>
+    requires kind { job.now.job ≡ kind.MatrixProduct }
     requires shape { is_product_shape left.now right.now ≡ true }
     requires few { length right.now ≤ input_limit }
     requires full { columns_of right.now ≡ 0 → length right.now ≡ 0 }
-    ensures ending { MeetsSeen (λ o. o.text) (number_keys (seen job.now) (rows_text decimal) (matrix_product_emissions left.now right.now)) result }
+    ensures ending { MeetsSeen (λ o. o.text) (number_keys (seen job.now) (rows_text decimal)
+        (matrix_product_emissions left.now right.now)) result }
     ensures of_inputs { IsOfInputs result }
-    ensures shares { IfOk result (λ o. AreOnlyRound nat_cmp (inside_of job.now.container job.now.capacity) workers.now.count (matrix_product_emits left.now right.now)
-        (range_with_len 0 (length left.now * columns_of right.now)) (spans_of job.now.chunk (length left.now * columns_of right.now)) (rounds_seen o.rounds.items)) }
+    ensures shares { IfOk result (λ o. AreOnlyRound nat_cmp (inside_of job.now.container job.now.capacity) workers.now.count
+        (matrix_product_emits left.now right.now)
+        (range_with_len 0 (length left.now * columns_of right.now)) (spans_of job.now.chunk (length left.now * columns_of right.now))
+        (rounds_seen o.rounds.items)) }
 {
     let turned = right.turned(workers.alloc)?;
     let spans = spans(elements(left, right), job.chunk);
     let mapper = Product::new(left, &turned, spans);
-    rows_output(
-        workers.alloc,
-        number_round::<T, G, Product, C, R>(workers, job, &mapper),
-    )
+    rows_output(workers.alloc, product_rows(workers, job, &mapper))
 }
 
 // A row of the left grid is as long as a column of the right one, and the product has no more elements than it may have.
@@ -90,13 +111,15 @@ fn product<T: Threads + Sync, G: Gate + Sync>(
     requires full { columns_of right.now ≡ 0 → length right.now ≡ 0 }
     ensures ending { MeetsSeen (λ o. o.text) (product_ending (seen job.now) left.now right.now) result }
     ensures of_inputs { IsOfInputs result }
-    ensures shares { IfOk result (λ o. AreOnlyRound nat_cmp (inside_of job.now.container job.now.capacity) workers.now.count (matrix_product_emits left.now right.now)
-        (range_with_len 0 (length left.now * columns_of right.now)) (spans_of job.now.chunk (length left.now * columns_of right.now)) (rounds_seen o.rounds.items)) }
+    ensures shares { IfOk result (λ o. AreOnlyRound nat_cmp (inside_of job.now.container job.now.capacity) workers.now.count
+        (matrix_product_emits left.now right.now)
+        (range_with_len 0 (length left.now * columns_of right.now)) (spans_of job.now.chunk (length left.now * columns_of right.now))
+        (rounds_seen o.rounds.items)) }
 {
     if !fit(left, right) {
         return Err(Stop::Refused(refused_input(workers.alloc, 2, b"shape")?));
     }
-    at_combiner!(job.combiner, { Sum }, multiplied[T, G](workers, job, left, right))
+    multiplied(workers, job, left, right)
 }
 
 /// Runs `matrix_product`: each row of the first grid and each column of the second give an element, by its number row after row.

@@ -101,8 +101,8 @@ where
     )
 }
 
-// The same tasks once more.
-fn copied(alloc: Global, tasks: &[u32]) -> Result<Few<u32>, Memory>
+/// The same tasks once more.
+pub(crate) fn copied(alloc: Global, tasks: &[u32]) -> Result<Few<u32>, Memory>
     ensures { IfOk result (λ copy. copy.items ≡ tasks.now) }
 {
     let mut copy = Few::with_room(alloc, 0)?;
@@ -125,7 +125,8 @@ fn share_of<L: Parted>(alloc: Global, hand: &Hand<L>) -> Result<Share, Memory>
 // What each worker did.
 fn shares_of<L: Parted>(alloc: Global, mapped: &Mapped<L>) -> Result<Few<Share>, Memory>
     ensures seen { IfOk result (λ shares. workers_of shares.items ≡ map (λ h. (h.tasks.items, L.cell_count h.local)) mapped.now) }
-    ensures cells { IfOk result (λ shares. (emits : ℕ → List (Emission L.Key L.Value)) → All (λ h. L.stands h.local (flat_map emits h.tasks.items)) mapped.now
+    ensures cells { IfOk result (λ shares. (emits : ℕ → List (Emission L.Key L.Value))
+        → All (λ h. L.stands h.local (flat_map emits h.tasks.items)) mapped.now
         → AreShares L.Key.cmp L.inside emits (workers_of shares.items)) }
 {
     let mut shares = Few::with_room(alloc, 0)?;
@@ -160,7 +161,7 @@ pub(crate) fn run_round<
     locals: Few<L>,
 ) -> Result<Round<L::Key>, Stop<Fault<L::Key>>>
 where
-    L::Key: Send,
+    L::Key: Send + Sync,
     L::Value: Send,
     L::Fold: Send,
     <L::Fold as Combiner>::Cell: Send,

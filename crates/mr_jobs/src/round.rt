@@ -1,6 +1,7 @@
 ghost use Rattle.std.specs.Prelude.{◌≡◌, ◌≤◌, [], All, IfOk, false, length};
 ghost use Rattle.std.specs.List.{flat_map, range_with_len};
 ghost use Rattle.std.specs.Ordering.{nat_cmp};
+ghost use Rattle.mr_capacity.specs.Folds.{folded};
 ghost use Rattle.mr_defs.specs.Rounds.{round_of};
 ghost use Rattle.mr_items.specs.Keys.{all_inside, below};
 ghost use Rattle.mr_jobs.specs.JobEnding.{inside_of, is_shared};
@@ -90,8 +91,8 @@ fn number<const N: usize>() -> u32
     N as u32
 }
 
-// The capacity of a job: one of those that are allowed.
-fn size_of(job: &Job) -> u32
+/// The capacity of a job: one of those that are allowed.
+pub(crate) fn size_of(job: &Job) -> u32
     ensures same { result ≡ job.now.capacity }
     ensures some { 1 ≤ result }
     ensures few { result ≤ 65536 }
@@ -162,7 +163,8 @@ where
     C::Cell: Send + Sync,
     requires tasks { M.task_count mapper.now ≤ 1048576 }
     requires own { is_shared job.now.container ≡ false }
-    ensures rows { MeetsSeen (λ r. r.rows) (round_of nat_cmp (inside_of job.now.container job.now.capacity) (is_shared job.now.container) R.folded
+    ensures rows { MeetsSeen (λ r. r.rows) (round_of nat_cmp (inside_of job.now.container job.now.capacity)
+        (is_shared job.now.container) R.folded
         (flat_map (M.task_emissions mapper.now) (range_with_len 0 (M.task_count mapper.now)))) result }
     ensures shares { IfOk result (λ r. IsLawfulRound nat_cmp (inside_of job.now.container job.now.capacity) workers.now.count
         (M.task_count mapper.now) (M.task_emissions mapper.now) (workers_of r.shares.items)) }
@@ -172,4 +174,26 @@ where
         ContainerKind::Array => array_round::<T, G, M, C, R>(workers, job, mapper),
         ContainerKind::Common => unreachable!(),
     }
+}
+
+/// A round of whole numbers in the containers of its own that each worker has, whose values are combined as the job says.
+pub(crate) fn own_round<
+    T: Threads + Sync,
+    G: Gate + Sync,
+    M: Mapper<Key = NumKey, Value = i64> + Sync,
+    C: Combiner<Value = i64> + Send + Sync,
+    R: Reducer<C> + Send,
+>(workers: &Workers<T, G>, job: &Job, mapper: &M) -> Result<Round<NumKey>, Stop<Fault<NumKey>>>
+where
+    C::Cell: Send + Sync,
+    requires tasks { M.task_count mapper.now ≤ 1048576 }
+    requires own { is_shared job.now.container ≡ false }
+    requires fold { R.folded ≡ folded job.now.combiner job.now.reducer }
+    ensures rows { MeetsSeen (λ r. r.rows) (round_of nat_cmp (inside_of job.now.container job.now.capacity) (is_shared job.now.container)
+        (folded job.now.combiner job.now.reducer) (flat_map (M.task_emissions mapper.now) (range_with_len 0 (M.task_count mapper.now))))
+        result }
+    ensures shares { IfOk result (λ r. IsLawfulRound nat_cmp (inside_of job.now.container job.now.capacity) workers.now.count
+        (M.task_count mapper.now) (M.task_emissions mapper.now) (workers_of r.shares.items)) }
+{
+    number_round::<T, G, M, C, R>(workers, job, mapper)
 }

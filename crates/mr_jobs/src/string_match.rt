@@ -49,7 +49,8 @@ where
     requires pieces { ArePieces Boundary.Line input.now pieces.now }
     requires few { length pieces.now ≤ 1048576 }
     ensures ending { MeetsSeen (λ o. o.text) (ended_by decimal (texted (rows_text decimal)
-        (round_of nat_cmp (inside_of job.now.container job.now.capacity) (is_shared job.now.container) (folded job.now.combiner job.now.reducer)
+        (round_of nat_cmp (inside_of job.now.container job.now.capacity) (is_shared job.now.container)
+        (folded job.now.combiner job.now.reducer)
         (string_match_emissions job.now.patterns input.now)))) result }
     ensures of_inputs { IsOfInputs result }
     ensures shares { IfOk result (λ o. AreOnlyRound nat_cmp (inside_of job.now.container job.now.capacity) workers.now.count
@@ -73,7 +74,8 @@ fn combined<'a, T: Threads + Sync, G: Gate + Sync>(
     requires pieces { ArePieces Boundary.Line input.now pieces.now }
     requires few { length pieces.now ≤ 1048576 }
     ensures ending { MeetsSeen (λ o. o.text) (ended_by decimal (texted (rows_text decimal)
-        (round_of nat_cmp (inside_of job.now.container job.now.capacity) (is_shared job.now.container) (folded job.now.combiner job.now.reducer)
+        (round_of nat_cmp (inside_of job.now.container job.now.capacity) (is_shared job.now.container)
+        (folded job.now.combiner job.now.reducer)
         (string_match_emissions job.now.patterns input.now)))) result }
     ensures of_inputs { IsOfInputs result }
     ensures shares { IfOk result (λ o. AreOnlyRound nat_cmp (inside_of job.now.container job.now.capacity) workers.now.count

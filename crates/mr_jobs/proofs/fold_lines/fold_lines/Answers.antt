@@ -17,14 +17,16 @@ pub returns-in-Bytes-clause-ending : goal.returns-in-Bytes-clause-ending
 returns-in-Bytes-clause-ending g c =
     let j = seen c.args.job.now in
     let inputs = c.args.inputs.now in
-    byte_rows j inputs kind.FoldLines c.requires.kind (λ o. o.text) c.byte_lines.result _ _ (ap (fold_lines_emissions bytes_key) c.first_input-input.ensures.input)
+    byte_rows j inputs kind.FoldLines c.requires.kind (λ o. o.text) c.byte_lines.result _ _
+    (ap (fold_lines_emissions bytes_key) c.first_input-input.ensures.input)
     (ap (λ keys. lines_ending j keys (slice_index_or inputs 0 [])) (sym c.in-Bytes.is)) c.byte_lines.ensures.ending
 
 pub returns-clause-ending : goal.returns-clause-ending
 returns-clause-ending g c =
     let j = seen c.args.job.now in
     let inputs = c.args.inputs.now in
-    number_rows j inputs kind.FoldLines c.requires.kind (λ o. o.text) c.number_lines.result (rows_text decimal) _ _ (ap (fold_lines_emissions number_key) c.first_input-input.ensures.input)
+    number_rows j inputs kind.FoldLines c.requires.kind (λ o. o.text) c.number_lines.result (rows_text decimal) _ _
+    (ap (fold_lines_emissions number_key) c.first_input-input.ensures.input)
     (ap (λ keys. lines_ending j keys (slice_index_or inputs 0 [])) (sym c.in-Numbers.is)) c.number_lines.ensures.ending
 
 pub returns-in-Bytes-clause-shares : goal.returns-in-Bytes-clause-shares
@@ -33,7 +35,9 @@ returns-in-Bytes-clause-shares g c =
     let inputs = c.args.inputs.now in
     report_of j inputs c.args.workers.now.count kind.FoldLines c.byte_lines.result c.requires.kind
     (keyed_report j inputs c.args.workers.now.count keys.Bytes c.byte_lines.result c.in-Bytes.is
-    (over_pieces byte_order all_inside c.args.workers.now.count c.args.job.now.chunk is_line_boundary line_places (fold_lines_emits bytes_key) _ (slice_index_or inputs 0 []) _ c.byte_lines.result c.first_input-input.ensures.input c.in_ok-pieces.ensures.exact c.byte_lines.ensures.shares))
+    (over_pieces byte_order all_inside c.args.workers.now.count c.args.job.now.chunk is_line_boundary line_places
+    (fold_lines_emits bytes_key) _ (slice_index_or inputs 0 []) _ c.byte_lines.result c.first_input-input.ensures.input
+    c.in_ok-pieces.ensures.exact c.byte_lines.ensures.shares))
 
 pub returns-clause-shares : goal.returns-clause-shares
 returns-clause-shares g c =
@@ -41,4 +45,7 @@ returns-clause-shares g c =
     let inputs = c.args.inputs.now in
     report_of j inputs c.args.workers.now.count kind.FoldLines c.number_lines.result c.requires.kind
     (keyed_report j inputs c.args.workers.now.count keys.Numbers c.number_lines.result c.in-Numbers.is
-    (over_pieces nat_cmp (inside_of c.args.job.now.container c.args.job.now.capacity) c.args.workers.now.count c.args.job.now.chunk is_line_boundary line_places (fold_lines_emits number_key) _ (slice_index_or inputs 0 []) _ c.number_lines.result c.first_input-input.ensures.input c.in_ok-pieces.ensures.exact c.number_lines.ensures.shares))
+    (over_pieces nat_cmp (inside_of c.args.job.now.container c.args.job.now.capacity) c.args.workers.now.count c.args.job.now.chunk
+    is_line_boundary line_places (fold_lines_emits number_key) _
+    (slice_index_or inputs 0 []) _ c.number_lines.result c.first_input-input.ensures.input c.in_ok-pieces.ensures.exact
+    c.number_lines.ensures.shares))

@@ -39,7 +39,8 @@ returns-in_ok-refused_bitmap-in-Err-clause-ending g c =
     let first = slice_index_or c.args.inputs.now 0 [] in
     let refusal = c.in_ok-refused_bitmap-in-Err in
     sym (kind_is j c.args.inputs.now kind.Histogram c.requires.kind)
-    ∙ sym (of_bitmap_fault first 1 (number_keys j (rows_text decimal) (histogram_emissions first)) c.in-Err.fault (c.in-Err.ensures.bitmap ∙ ap bitmap_of c.first_input-input.ensures.input))
+    ∙ sym (of_bitmap_fault first 1 (number_keys j (rows_text decimal) (histogram_emissions first)) c.in-Err.fault
+    (c.in-Err.ensures.bitmap ∙ ap bitmap_of c.first_input-input.ensures.input))
     ∙ refusal_is refusal.field-0 status.Input (bitmap_line 1 c.in-Err.fault) refusal.ensures.status refusal.ensures.line
 
 pub returns-in-Ok-clause-shares : goal.returns-in-Ok-clause-shares
@@ -48,4 +49,5 @@ returns-in-Ok-clause-shares g c =
     let workers = c.args.workers.now.count in
     report_of (seen job) c.args.inputs.now workers kind.Histogram c.combined.result c.requires.kind
     (subst (λ bytes. IfOk c.combined.result (λ (o : Output). AreOnlyRound nat_cmp (inside_of job.container job.capacity) workers
-    (histogram_emits bytes) (range_with_len 0 (pixel_rows bytes)) (spans_of job.chunk (pixel_rows bytes)) (rounds_seen o.rounds.items))) c.first_input-input.ensures.input c.combined.ensures.shares)
+    (histogram_emits bytes) (range_with_len 0 (pixel_rows bytes)) (spans_of job.chunk (pixel_rows bytes)) (rounds_seen o.rounds.items)))
+    c.first_input-input.ensures.input c.combined.ensures.shares)

@@ -11,7 +11,8 @@ use Rattle.mr_jobs.proofs.inverted_index.inverted_index.Goals as goal
 
 pub returns-clause-ending : goal.returns-clause-ending
 returns-clause-ending g c =
-    byte_rows (seen c.args.job.now) c.args.inputs.now kind.InvertedIndex c.requires.kind (λ o. o.text) c.combined.result _ _ (ap inverted_index_emissions c.first_input-input.ensures.input) refl
+    byte_rows (seen c.args.job.now) c.args.inputs.now kind.InvertedIndex c.requires.kind (λ o. o.text) c.combined.result _ _
+    (ap inverted_index_emissions c.first_input-input.ensures.input) refl
     c.combined.ensures.ending
 
 pub returns-clause-shares : goal.returns-clause-shares
@@ -19,4 +20,6 @@ returns-clause-shares g c =
     let j = seen c.args.job.now in
     let inputs = c.args.inputs.now in
     report_of j inputs c.args.workers.now.count kind.InvertedIndex c.combined.result c.requires.kind
-    (over_pieces byte_order all_inside c.args.workers.now.count c.args.job.now.chunk is_line_boundary line_places (inverted_index_emits) _ (slice_index_or inputs 0 []) _ c.combined.result c.first_input-input.ensures.input c.in_ok-pieces.ensures.exact c.combined.ensures.shares)
+    (over_pieces byte_order all_inside c.args.workers.now.count c.args.job.now.chunk is_line_boundary line_places (inverted_index_emits) _
+    (slice_index_or inputs 0 []) _ c.combined.result c.first_input-input.ensures.input c.in_ok-pieces.ensures.exact
+    c.combined.ensures.shares)

@@ -20,6 +20,7 @@ returns-clause-ending g c =
     let shape : is_regression_shape c.args.grid.now ≡ true = search rules in
     let sum : c.args.job.now.combiner ≡ combiner.Sum = search rules in
     subst (λ ended. MeetsSeen {B = Output} (λ o. o.text) ended c.line_text.result)
-    (ap (λ x. ended_by decimal (texted regression_text (round_of nat_cmp (inside_of j.container j.capacity) (is_shared j.container) (folded x j.reducer) es))) (sym sum)
+    (ap (λ x. ended_by decimal (texted regression_text (round_of nat_cmp (inside_of j.container j.capacity) (is_shared j.container)
+    (folded x j.reducer) es))) (sym sum)
     ∙ number_ending j regression_text es ∙ ap (λ fits. shaped 1 fits (number_keys j regression_text es)) (sym shape))
     c.line_text.ensures.ending

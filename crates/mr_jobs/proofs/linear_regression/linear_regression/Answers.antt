@@ -19,5 +19,7 @@ returns-in-Ok-clause-shares g c =
     let job = c.args.job.now in
     let workers = c.args.workers.now.count in
     report_of (seen job) c.args.inputs.now workers kind.LinearRegression c.line_through.result c.requires.kind
-    (subst (λ read. IfOk c.line_through.result (λ (o : Output). OfGrid (λ grid. AreOnlyRound nat_cmp (inside_of job.container job.capacity) workers
-    (linear_regression_emits grid) (range_with_len 0 (length grid)) (spans_of job.chunk (length grid)) (rounds_seen o.rounds.items)) read)) (sym c.in-Ok.ensures.read) c.line_through.ensures.shares)
+    (subst (λ read. IfOk c.line_through.result (λ (o : Output). OfGrid
+    (λ grid. AreOnlyRound nat_cmp (inside_of job.container job.capacity) workers
+    (linear_regression_emits grid) (range_with_len 0 (length grid)) (spans_of job.chunk (length grid)) (rounds_seen o.rounds.items)) read))
+    (sym c.in-Ok.ensures.read) c.line_through.ensures.shares)

@@ -11,5 +11,7 @@ pub returns-clause-shares : goal.returns-clause-shares
 returns-clause-shares g c =
     let job = c.args.job.now in
     let grid = c.args.grid.now in
-    over_stretches nat_cmp (inside_of job.container job.capacity) c.args.workers.now.count _ _ (linear_regression_emits grid) (range_with_len 0 (length grid)) c.spans.result (spans_of job.chunk (length grid)) c.number_round.result
-    c.number_round.ensures.shares c.new-mapper.ensures.count c.new-mapper.ensures.tasks (c.spans.ensures.exact ∙ ap (spans_of job.chunk) c.rows.ensures)
+    over_stretches nat_cmp (inside_of job.container job.capacity) c.args.workers.now.count _ _ (linear_regression_emits grid)
+    (range_with_len 0 (length grid)) c.spans.result (spans_of job.chunk (length grid)) c.number_round.result
+    c.number_round.ensures.shares c.new-mapper.ensures.count c.new-mapper.ensures.tasks
+    (c.spans.ensures.exact ∙ ap (spans_of job.chunk) c.rows.ensures)

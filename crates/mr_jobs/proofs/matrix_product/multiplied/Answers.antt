@@ -1,7 +1,8 @@
-use Rattle.std.proofs.Common.{◌≡◌, ◌≤◌, ◌*◌, ℤ, List, length, ap, sym, subst, ◌∙◌, arith}
+use Rattle.std.proofs.Common.{◌≡◌, ◌≤◌, ◌*◌, ℤ, List, length, refl, ap, sym, subst, ◌∙◌, arith}
 use Rattle.std.specs.Prelude.{IfOk, decimal}
 use Rattle.std.specs.List.{range_with_len}
 use Rattle.std.specs.Ordering.{nat_cmp}
+use Rattle.mr_capacity.specs.Folds.{folded}
 use Rattle.mr_defs.specs.Tasks.{spans_of}
 use Rattle.mr_items.specs.Grid.{columns_of}
 use Rattle.mr_items.specs.MatrixProduct.{matrix_product_emits, matrix_product_emissions}
@@ -25,7 +26,8 @@ turned_rows : (left right turned : List (List ℤ)) → turned ≡ turned_of rig
 turned_rows left right turned e = ap (λ n. length left * n) (sym (ap length e ∙ rows_of_turned right))
 
 pub new-mapper-requires-clause-alike : goal.new-mapper-requires-clause-alike
-new-mapper-requires-clause-alike g c = alike c.args.left.now c.args.right.now c.requires.shape c.requires.full ∙ sym (ap columns_of c.in_ok-turned.ensures)
+new-mapper-requires-clause-alike g c = alike c.args.left.now c.args.right.now c.requires.shape c.requires.full
+    ∙ sym (ap columns_of c.in_ok-turned.ensures)
 
 pub new-mapper-requires-clause-few : goal.new-mapper-requires-clause-few
 new-mapper-requires-clause-few g c =
@@ -34,15 +36,18 @@ new-mapper-requires-clause-few g c =
 
 pub new-mapper-requires-clause-spans : goal.new-mapper-requires-clause-spans
 new-mapper-requires-clause-spans g c =
-    subst (λ n. AreSpans n c.spans-spans.result) (c.elements.ensures.count ∙ turned_rows c.args.left.now c.args.right.now c.in_ok-turned.turned c.in_ok-turned.ensures) c.spans-spans.ensures.of_items
+    subst (λ n. AreSpans n c.spans-spans.result) (c.elements.ensures.count
+    ∙ turned_rows c.args.left.now c.args.right.now c.in_ok-turned.turned c.in_ok-turned.ensures) c.spans-spans.ensures.of_items
 
 pub returns-clause-ending : goal.returns-clause-ending
 returns-clause-ending g c =
     let job = c.args.job.now in
     let right = c.args.right.now in
-    subst (λ ended. MeetsSeen {B = Output} (λ o. o.text) ended c.rows_output.result) (number_ending (seen job) (rows_text decimal) (matrix_product_emissions c.args.left.now right))
-    (c.rows_output.ensures.ending _ (same_round nat_cmp (inside_of job.container job.capacity) (is_shared job.container) _ _ _ _ c.number_round.result c.requires.fold
-    (c.new-mapper.ensures.whole right c.in_ok-turned.ensures) c.number_round.ensures.rows))
+    subst (λ ended. MeetsSeen {B = Output} (λ o. o.text) ended c.rows_output.result)
+    (number_ending (seen job) (rows_text decimal) (matrix_product_emissions c.args.left.now right))
+    (c.rows_output.ensures.ending _ (same_round nat_cmp (inside_of job.container job.capacity) (is_shared job.container)
+    (folded job.combiner job.reducer) (folded job.combiner job.reducer) _ _ c.product_rows.result refl
+    (c.new-mapper.ensures.whole right c.in_ok-turned.ensures) c.product_rows.ensures.rows))
 
 pub returns-clause-shares : goal.returns-clause-shares
 returns-clause-shares g c =
@@ -52,7 +57,10 @@ returns-clause-shares g c =
     let inside = inside_of job.container job.capacity in
     let items = range_with_len 0 (length left * columns_of right) in
     let workers = c.args.workers.now.count in
-    subst (λ cut. IfOk c.rows_output.result (λ (o : Output). AreOnlyRound nat_cmp inside workers (matrix_product_emits left right) items cut (rounds_seen o.rounds.items)))
+    subst (λ cut. IfOk c.rows_output.result (λ (o : Output). AreOnlyRound nat_cmp inside workers (matrix_product_emits left right) items cut
+    (rounds_seen o.rounds.items)))
     (c.spans-spans.ensures.exact ∙ ap (spans_of job.chunk) c.elements.ensures.count)
-    (only_shares nat_cmp inside workers _ _ (matrix_product_emits left right) items c.spans-spans.result c.number_round.result c.rows_output.result
-    c.rows_output.ensures.shares c.number_round.ensures.shares c.new-mapper.ensures.count (λ t. c.new-mapper.ensures.tasks right t c.in_ok-turned.ensures))
+    (only_shares nat_cmp inside workers _ _ (matrix_product_emits left right) items c.spans-spans.result c.product_rows.result
+    c.rows_output.result
+    c.rows_output.ensures.shares c.product_rows.ensures.shares c.new-mapper.ensures.count
+    (λ t. c.new-mapper.ensures.tasks right t c.in_ok-turned.ensures))

@@ -4,8 +4,10 @@ use Rattle.mr_jobs.proofs.Merging.{only_differ, weaker}
 use Rattle.mr_jobs.proofs.phases.reduce_cells.Goals as goal
 
 pub returns-then-count-eq1-clause-differ : goal.returns-then-count-eq1-clause-differ
-returns-then-count-eq1-clause-differ g c = only_differ g.L.Key.Ord.cmp (λ r. r.lists.items) c.gather.result c.gather.ensures.count c.gather.ensures.ascend
+returns-then-count-eq1-clause-differ g c = only_differ g.L.Key.Ord.cmp
+    (λ r. r.lists.items) c.gather.result c.gather.ensures.count c.gather.ensures.ascend
 
 pub returns-clause-tasks : goal.returns-clause-tasks
 returns-clause-tasks g c =
-    weaker c.reduce_phase.result _ _ (λ r spread pairs all stands perm. spread pairs all (c.arrange.ensures.stands pairs stands) (subst (IsPermutation all) (sym c.arrange.ensures.tasks) perm)) c.reduce_phase.ensures.tasks
+    weaker c.reduce_phase.result _ _ (λ r spread pairs all stands perm. spread pairs all (c.arrange.ensures.stands pairs stands)
+    (subst (IsPermutation all) (sym c.arrange.ensures.tasks) perm)) c.reduce_phase.ensures.tasks

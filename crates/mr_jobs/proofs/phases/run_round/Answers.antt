@@ -12,13 +12,17 @@ returns-in_ok-merge_all-in-None-clause-rows g c =
     let emits = g.M.Mapper.task_emissions c.args.mapper.now in
     let all = range_with_len 0 (g.M.Mapper.task_count c.args.mapper.now) in
     let reduced = c.in_ok-lists.field-0 in
-    round_passed c.keys_are_ordered.ensures.total c.keys_are_ordered.ensures.one g.L.Parted.inside g.R.Reducer.folded (flat_map emits all) reduced.lists.items (noted_of reduced.faults)
+    round_passed c.keys_are_ordered.ensures.total c.keys_are_ordered.ensures.one g.L.Parted.inside g.R.Reducer.folded
+    (flat_map emits all) reduced.lists.items (noted_of reduced.faults)
     (c.in_ok-lists.ensures.tasks emits all c.in_ok-mapped.ensures.stands c.in_ok-mapped.ensures.once)
-    c.in_ok-merge_all-in-None.field-0 (sym c.in-None.is ∙ c.first.ensures) c.in_ok-merge_all-in-None.ensures.all c.in_ok-merge_all-in-None.ensures.ascends
+    c.in_ok-merge_all-in-None.field-0 (sym c.in-None.is ∙ c.first.ensures) c.in_ok-merge_all-in-None.ensures.all
+    c.in_ok-merge_all-in-None.ensures.ascends
 
 pub returns-in_ok-merge_all-in-None-clause-shares : goal.returns-in_ok-merge_all-in-None-clause-shares
 returns-in_ok-merge_all-in-None-clause-shares g c =
     let emits = g.M.Mapper.task_emissions c.args.mapper.now in
-    lawful (λ (h : Hand g.row.L.Denot). h.tasks.items) (λ h. g.L.Local.cell_count h.local) g.L.Key.Ord.cmp g.L.Parted.inside emits c.args.workers.now.count (g.M.Mapper.task_count c.args.mapper.now)
-    c.in_ok-mapped.mapped (workers_of c.in_ok-shares.shares.items) c.in_ok-shares.ensures.seen c.in_ok-mapped.ensures.count c.in_ok-mapped.ensures.once
+    lawful (λ (h : Hand g.row.L.Denot). h.tasks.items) (λ h. g.L.Local.cell_count h.local) g.L.Key.Ord.cmp g.L.Parted.inside emits
+    c.args.workers.now.count (g.M.Mapper.task_count c.args.mapper.now)
+    c.in_ok-mapped.mapped (workers_of c.in_ok-shares.shares.items) c.in_ok-shares.ensures.seen c.in_ok-mapped.ensures.count
+    c.in_ok-mapped.ensures.once
     (c.in_ok-shares.ensures.cells emits c.in_ok-mapped.ensures.stands)

@@ -10,4 +10,5 @@ use Rattle.mr_jobs.proofs.round.array_round.Goals as goal
 pub returns-clause-rows : goal.returns-clause-rows
 returns-clause-rows g c =
     let es = flat_map (g.M.Mapper.task_emissions c.args.mapper.now) (range_with_len 0 (g.M.Mapper.task_count c.args.mapper.now)) in
-    subst (λ n. MeetsSeen (λ r. r.rows) (round_of nat_cmp (below n) false g.R.Reducer.folded es) c.in_array.result) c.size_of.ensures.same c.in_array.ensures.rows
+    subst (λ n. MeetsSeen (λ r. r.rows) (round_of nat_cmp (below n) false g.R.Reducer.folded es) c.in_array.result) c.size_of.ensures.same
+    c.in_array.ensures.rows

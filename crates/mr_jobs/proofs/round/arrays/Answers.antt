@@ -13,5 +13,6 @@ loop-preserved g c =
       counted c.loop.arrays.items c.push.new.self.items c.in_ok-new.field-0 c.loop.counter pushed was.0,
       omega (arith, was.1, c.push.ensures.spare),
       each_pushed c.loop.arrays.items c.push.new.self.items c.in_ok-new.field-0
-          (λ s. StandsFor nat_cmp (is_below g.S.Size.size) g.C.Combiner.unit_of g.C.Combiner.merged (cell_in s.cells.items) (filled s.cells.items) (noted_of s.faults) []) pushed was.2 c.in_ok-new.ensures.empty,
+          (λ s. StandsFor nat_cmp (is_below g.S.Size.size) g.C.Combiner.unit_of g.C.Combiner.merged (cell_in s.cells.items)
+          (filled s.cells.items) (noted_of s.faults) []) pushed was.2 c.in_ok-new.ensures.empty,
     )

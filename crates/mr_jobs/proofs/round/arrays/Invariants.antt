@@ -8,4 +8,5 @@ use Rattle.mr_jobs.proofs.round.arrays.Given as goal
 
 abbrev pub invariant-loop : goal.invariant-loop
 invariant-loop g l = (length l.arrays.items ≡ l.counter) × (l.count ≤ l.arrays.spare + l.counter)
-    × All (λ s. StandsFor nat_cmp (is_below g.S.Size.size) g.C.Combiner.unit_of g.C.Combiner.merged (cell_in s.cells.items) (filled s.cells.items) (noted_of s.faults) []) l.arrays.items
+    × All (λ s. StandsFor nat_cmp (is_below g.S.Size.size) g.C.Combiner.unit_of g.C.Combiner.merged (cell_in s.cells.items)
+    (filled s.cells.items) (noted_of s.faults) []) l.arrays.items

@@ -13,5 +13,7 @@ loop-preserved g c =
       counted c.loop.tables.items c.push.new.self.items c.in_ok-new.field-0 c.loop.counter pushed was.0,
       omega (arith, was.1, c.push.ensures.spare),
       each_pushed c.loop.tables.items c.push.new.self.items c.in_ok-new.field-0
-          (λ s. StandsFor g.K.Ord.cmp (λ _. true) g.C.Combiner.unit_of g.C.Combiner.merged (λ k. find g.K.Ord.cmp k (pairs_of s.table.entries.items)) (length s.table.entries.items) (noted_of s.faults.value) []) pushed was.2 c.in_ok-new.ensures.empty,
+          (λ s. StandsFor g.K.Ord.cmp (λ _. true) g.C.Combiner.unit_of g.C.Combiner.merged
+          (λ k. find g.K.Ord.cmp k (pairs_of s.table.entries.items)) (length s.table.entries.items)
+          (noted_of s.faults.value) []) pushed was.2 c.in_ok-new.ensures.empty,
     )

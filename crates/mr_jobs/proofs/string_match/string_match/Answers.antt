@@ -13,7 +13,8 @@ use Rattle.mr_jobs.proofs.string_match.string_match.Goals as goal
 
 pub returns-clause-ending : goal.returns-clause-ending
 returns-clause-ending g c =
-    number_rows (seen c.args.job.now) c.args.inputs.now kind.StringMatch c.requires.kind (λ o. o.text) c.combined.result (rows_text decimal) _ _ (ap (string_match_emissions c.args.job.now.patterns) c.first_input-input.ensures.input) refl
+    number_rows (seen c.args.job.now) c.args.inputs.now kind.StringMatch c.requires.kind (λ o. o.text) c.combined.result
+    (rows_text decimal) _ _ (ap (string_match_emissions c.args.job.now.patterns) c.first_input-input.ensures.input) refl
     c.combined.ensures.ending
 
 pub returns-clause-shares : goal.returns-clause-shares
@@ -21,4 +22,7 @@ returns-clause-shares g c =
     let j = seen c.args.job.now in
     let inputs = c.args.inputs.now in
     report_of j inputs c.args.workers.now.count kind.StringMatch c.combined.result c.requires.kind
-    (over_pieces nat_cmp (inside_of c.args.job.now.container c.args.job.now.capacity) c.args.workers.now.count c.args.job.now.chunk is_line_boundary line_places (string_match_emits c.args.job.now.patterns) _ (slice_index_or inputs 0 []) _ c.combined.result c.first_input-input.ensures.input c.in_ok-pieces.ensures.exact c.combined.ensures.shares)
+    (over_pieces nat_cmp (inside_of c.args.job.now.container c.args.job.now.capacity) c.args.workers.now.count c.args.job.now.chunk
+    is_line_boundary line_places (string_match_emits c.args.job.now.patterns) _
+    (slice_index_or inputs 0 []) _ c.combined.result c.first_input-input.ensures.input c.in_ok-pieces.ensures.exact
+    c.combined.ensures.shares)

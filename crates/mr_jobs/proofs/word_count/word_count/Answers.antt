@@ -11,7 +11,8 @@ use Rattle.mr_jobs.proofs.word_count.word_count.Goals as goal
 
 pub returns-clause-ending : goal.returns-clause-ending
 returns-clause-ending g c =
-    byte_rows (seen c.args.job.now) c.args.inputs.now kind.WordCount c.requires.kind (λ o. o.text) c.combined.result _ _ (ap word_count_emissions c.first_input-input.ensures.input) refl
+    byte_rows (seen c.args.job.now) c.args.inputs.now kind.WordCount c.requires.kind (λ o. o.text) c.combined.result _ _
+    (ap word_count_emissions c.first_input-input.ensures.input) refl
     c.combined.ensures.ending
 
 pub returns-clause-shares : goal.returns-clause-shares
@@ -19,4 +20,6 @@ returns-clause-shares g c =
     let j = seen c.args.job.now in
     let inputs = c.args.inputs.now in
     report_of j inputs c.args.workers.now.count kind.WordCount c.combined.result c.requires.kind
-    (over_pieces byte_order all_inside c.args.workers.now.count c.args.job.now.chunk is_word_boundary word_places (word_count_emits) _ (slice_index_or inputs 0 []) _ c.combined.result c.first_input-input.ensures.input c.in_ok-pieces.ensures.exact c.combined.ensures.shares)
+    (over_pieces byte_order all_inside c.args.workers.now.count c.args.job.now.chunk is_word_boundary word_places (word_count_emits) _
+    (slice_index_or inputs 0 []) _ c.combined.result c.first_input-input.ensures.input c.in_ok-pieces.ensures.exact
+    c.combined.ensures.shares)

@@ -1,0 +1,40 @@
+use Rattle.std.proofs.Common.{◌≡◌, ◌∙◌, false, length, Ok, ap, subst, sym}
+use Rattle.std.specs.List.{All}
+use Rattle.std.specs.Ordering.{nat_cmp}
+use Rattle.mr_defs.specs.Folded.{sum_folded}
+use Rattle.mr_defs.specs.Rounds.{round_of}
+use Rattle.mr_items.specs.Pca.{column_means, pca_emissions}
+use Rattle.mr_jobs.proofs.PassRows.{column_sums, means_count, product_sums}
+use Rattle.mr_jobs.specs.Passes.{pass_of}
+use Rattle.mr_numeric.specs.Sums.{IsColumnSum}
+use Rattle.mr_jobs.proofs.pca.ColumnsRounds.outcome.Goals as goal
+
+pub pca_text-requires-clause-sums : goal.pca_text-requires-clause-sums
+pca_text-requires-clause-sums c =
+    let rows = c.requires.rows in
+    let grid = c.args.self.now.grid.now in
+    product_sums rows.0 grid c.args.rows.now _
+    (subst (λ s. round_of nat_cmp rows.0 false sum_folded (pca_emissions grid s) ≡ Ok c.args.rows.now)
+    (sym c.state.view_is ∙ ap pass_of c.in-Some.is) rows.1)
+
+pub column_means-requires : goal.column_means-requires
+column_means-requires c =
+    let rows = c.requires.rows in
+    let grid = c.args.self.now.grid.now in
+    subst (λ n. All (IsColumnSum n) c.args.rows.now) (sym c.rows-points.ensures)
+    (column_sums rows.0 grid c.args.rows.now c.args.self.now.even
+    (subst (λ s. round_of nat_cmp rows.0 false sum_folded (pca_emissions grid s) ≡ Ok c.args.rows.now)
+    (sym c.state.view_is ∙ ap pass_of c.in-None.is) rows.1))
+
+pub returns-in_ok-column_means-in-None-clause-fits : goal.returns-in_ok-column_means-in-None-clause-fits
+returns-in_ok-column_means-in-None-clause-fits c =
+    let rows = c.requires.rows in
+    let self = c.args.self.now in
+    let grid = self.grid.now in
+    let means = c.in_ok-column_means-in-None in (
+      ap length (means.ensures.means ∙ ap (column_means c.args.rows.now) c.rows-points.ensures)
+          ∙ means_count rows.0 grid c.args.rows.now self.even self.few
+          (subst (λ s. round_of nat_cmp rows.0 false sum_folded (pca_emissions grid s) ≡ Ok c.args.rows.now)
+          (sym c.state.view_is ∙ ap pass_of c.in-None.is) rows.1),
+      means.ensures.small,
+    )
