@@ -50,3 +50,35 @@ fn each_task_once(rt: HostRuntime) -> Result<(), Fail> {
     }
     Ok(())
 }
+
+// What the first of two passes over three tasks takes at four calls, and then the second at three.
+fn taken_in_turn(alloc: Global, kind: QueueKind) -> Result<[Option<u32>; 7], Memory> {
+    let ranges = Ranges::even(alloc, 3, 2)?;
+    let (queues, mut passes) = AnyQueues::of(alloc, kind, &ranges)?;
+    let Some(mut second) = passes.pop() else {
+        return Err(Memory);
+    };
+    let Some(mut first) = passes.pop() else {
+        return Err(Memory);
+    };
+    Ok([
+        queues.take(&mut first),
+        queues.take(&mut first),
+        queues.take(&mut first),
+        queues.take(&mut first),
+        queues.take(&mut second),
+        queues.take(&mut second),
+        queues.take(&mut second),
+    ])
+}
+
+#[test]
+fn each_takes_until_none(rt: HostRuntime) -> Result<(), Fail> {
+    let alloc = rt.alloc();
+    let own = [Some(0), None, None, None, Some(1), Some(2), None];
+    let all = [Some(0), Some(1), Some(2), None, None, None, None];
+    assert!(rt; taken_in_turn(alloc, QueueKind::Blocks)? == own);
+    assert!(rt; taken_in_turn(alloc, QueueKind::Ranges)? == all);
+    assert!(rt; taken_in_turn(alloc, QueueKind::Deques)? == all);
+    Ok(())
+}

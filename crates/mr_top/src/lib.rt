@@ -17,6 +17,8 @@ mod outcome;
 mod reading;
 #[cfg(test)]
 mod report_tests;
+#[cfg(test)]
+mod rows_tests;
 mod running;
 #[cfg(test)]
 mod tests;

@@ -81,6 +81,32 @@ fn reports_of_runs(rt: HostRuntime) -> Result<(), Fail> {
 }
 
 #[test]
+fn reports_of_rounds(rt: HostRuntime) -> Result<(), Fail> {
+    let alloc = rt.alloc();
+    let cases: [(&str, &str, &str); 2] = [
+        (
+            "job = \"kmeans\"\ncontainer = \"array\"\ncapacity = 16\ncombiner = \"vecsum\"\nclusters = 2\nrounds = 9\n",
+            "0\n4\n2\n",
+            "round 1 worker 0 cells 2 tasks 0\nround 2 worker 0 cells 2 tasks 0\n",
+        ),
+        (
+            "job = \"pca\"\ncontainer = \"array\"\ncapacity = 16\ncombiner = \"sum\"\nchunk = 1\n",
+            "1 2\n3 6\n",
+            "round 1 worker 0 cells 2 tasks 0 1\nround 2 worker 0 cells 3 tasks 0 1\n",
+        ),
+    ];
+    for (lines, input, wanted) in cases {
+        let job = format!(in alloc; "version = 1\n{lines}")?;
+        let words = ["mapred", "--report", "W", "in"];
+        let gate = NotingGate::new(false);
+        let (status, _, err) = ran(&rt, alloc, job.as_str(), input, &words, &gate)?;
+        assert!(rt; status == Status::Done, "{lines}");
+        assert!(rt; err.bytes() == wanted.as_bytes(), "{lines}");
+    }
+    Ok(())
+}
+
+#[test]
 fn long_generated_text(rt: HostRuntime) -> Result<(), Fail> {
     let alloc = rt.alloc();
     for workers in ["1", "8", "32"] {

@@ -56,6 +56,22 @@ pub fn ran<R: Threads + Sync>(
     passed(rt, alloc, texts, &mut shelf, 1000, gate)
 }
 
+/// As `ran`, where there are two inputs, `in` and `two`.
+pub fn ran_on<R: Threads + Sync>(
+    rt: &R,
+    alloc: Global,
+    job: &str,
+    inputs: (&[u8], &[u8]),
+    texts: &[&str],
+    gate: &NotingGate,
+) -> Result<(Status, MemorySink, MemorySink), Memory> {
+    let mut shelf = MemoryShelf::new(alloc, 4)?;
+    shelf.add("W", job.as_bytes())?;
+    shelf.add("in", inputs.0)?;
+    shelf.add("two", inputs.1)?;
+    passed(rt, alloc, texts, &mut shelf, 1000, gate)
+}
+
 #[test]
 fn words_and_their_answers(rt: HostRuntime) -> Result<(), Fail> {
     let alloc = rt.alloc();
@@ -164,6 +180,18 @@ fn job_files_and_their_texts(rt: HostRuntime) -> Result<(), Fail> {
         let held = if status == Status::Done { out } else { err };
         assert!(rt; held.bytes() == text.as_bytes(), "{job}");
     }
+    Ok(())
+}
+
+#[test]
+fn only_words_are_generated(rt: HostRuntime) -> Result<(), Fail> {
+    let job =
+        "version = 1\njob = \"fold_lines\"\ncontainer = \"hash\"\ncapacity = 16\ncombiner = \"sum\"\nkeys = \"bytes\"\n";
+    let words = ["mapred", "--mode", "generate", "W", "0", "1"];
+    let (status, out, err) = ran(&rt, rt.alloc(), job, "", &words, &NotingGate::new(false))?;
+    assert!(rt; status == Status::Job);
+    assert!(rt; out.bytes().is_empty());
+    assert!(rt; err.bytes() == b"fault: job pairing\n".as_slice());
     Ok(())
 }
 

@@ -13,7 +13,9 @@ use Rattle.mr_top.proofs.modes.commanded.Goals as goal
 
 pub returns-in-Run-clause-report : goal.returns-in-Run-clause-report
 returns-in-Run-clause-report g c =
-    run_reports (g.H.Shelf.contents c.args.shelf.now) (asked c.args.command.now) (seen c.in_ok-job.job) _ _ _ _ c.ran.result c.in_ok-job.ensures.kept c.in-Run.is c.as_str.ensures c.deref.ensures.value c.requires.workers
+    run_reports (g.H.Shelf.contents c.args.shelf.now) (asked c.args.command.now)
+    (seen c.in_ok-job.job) _ _ _ _ c.ran.result c.in_ok-job.ensures.kept c.in-Run.is c.as_str.ensures c.deref.ensures.value
+    c.requires.workers
     c.in_ok-job.ensures.ok c.ran.ensures.report
 
 pub returns-clause-report : goal.returns-clause-report
