@@ -6,7 +6,8 @@ use Rattle.mr_top.specs.Stages.{Contents}
 use Rattle.mr_top.specs.Means.{Means, Tells}
 
 -- with the code of the status of a run of these words, and what both outputs gained by it
-pub record EndsAs (exits : ℕ) (contents : Option Contents) (words : List (List ℕ)) (old new told_old told_new : Option (List ℕ)) (before now : ℕ) : Type 0 where
+pub record EndsAs (exits : ℕ) (contents : Option Contents) (words : List (List ℕ)) (old new told_old told_new : Option (List ℕ))
+    (before now : ℕ) : Type 0 where
   pub status : Status
   pub code : exits ≡ code_of status
   pub means : Means status contents words old new
