@@ -10,8 +10,20 @@ use std::test::Fail;
 use std::thread::Threads;
 
 const LINE_JOBS: &str = "\
+#job='word_count';container='hash';capacity=1024;combiner='sum';chunk=1;queue='blocks';
+|0|
+the cat the dog|0|cat 1;dog 1;the 2;
+aa bb|0|aa 1;bb 1;
+Don't DON'T|0|don't 2;
+#job='word_count';container='hash';capacity=1024;combiner='sum';chunk=1;queue='ranges';
+the cat the dog|0|cat 1;dog 1;the 2;
+#job='word_count';container='hash';capacity=1024;combiner='sum';chunk=1;queue='deques';
+the cat the dog|0|cat 1;dog 1;the 2;
+#job='word_count';container='hash';capacity=1024;combiner='sum';chunk=1;
+the cat the dog|0|cat 1;dog 1;the 2;
 #job='fold_lines';container='hash';capacity=16;combiner='sum';keys='bytes';
 a 5;b -2;a -5;|0|a 0;b -2;
+k 5;k 3;|0|k 8;
 a 9223372036854775807;a -1;|7|fault: over a;
 a 9223372036854775807;|0|a 9223372036854775807;
 a 1;b x;c;|4|fault: input 1 malformed at 4;
@@ -24,10 +36,23 @@ A 1;a 1;|0|A 1;a 1;
 a 9223372036854775808;|4|fault: input 1 malformed at 0;
 #job='fold_lines';container='hash';capacity=16;combiner='buffer';reducer='median';keys='bytes';
 k 9;k 1;k 5;k 3;|0|k 3;
+k 5;k 3;|0|k 3;
 #job='fold_lines';container='hash';capacity=16;combiner='buffer';reducer='list';keys='bytes';
 k 5;k 3;k 5;|0|k 3 5 5;
 #job='fold_lines';container='hash';capacity=16;combiner='buffer';reducer='distinct';keys='bytes';
 k 5;k 3;k 5;|0|k 3 5;
+#job='fold_lines';container='hash';capacity=16;combiner='min';keys='bytes';
+k 5;k 3;|0|k 3;
+#job='fold_lines';container='hash';capacity=16;combiner='max';keys='bytes';
+k 5;k 3;|0|k 5;
+#job='fold_lines';container='hash';capacity=16;combiner='one';keys='bytes';
+k 5;k 3;|0|k 1;
+#job='fold_lines';container='hash';capacity=16;combiner='count';keys='bytes';
+k 5;k 3;|0|k 2;
+#job='fold_lines';container='hash';capacity=16;combiner='and';keys='bytes';
+k 5;k 3;|0|k 1;
+#job='fold_lines';container='hash';capacity=16;combiner='or';keys='bytes';
+k 5;k 3;|0|k 7;
 #job='fold_lines';container='hash';capacity=16;combiner='minmax';keys='bytes';
 k 5;k 3;|0|k 3 5;
 #job='fold_lines';container='hash';capacity=16;combiner='sumcount';keys='bytes';
@@ -191,20 +216,35 @@ fn holds<R: Threads + Sync>(
     Ok(answers && held.bytes() == wanted.as_bytes() && other.bytes().is_empty())
 }
 
-// The first case of a table that doesn't come out as it says, with one worker or with four.
+// Whether the case comes out so with each of these numbers of workers.
+fn always_holds<R: Threads + Sync>(
+    rt: &R,
+    alloc: Global,
+    job: &str,
+    case: &str,
+    counts: &[&str],
+) -> Result<bool, Memory> {
+    for workers in counts {
+        if !holds(rt, alloc, job, case, workers)? {
+            return Ok(false);
+        }
+    }
+    Ok(true)
+}
+
+// The first case of a table that doesn't come out as it says with each of these numbers of workers.
 fn first_wrong<'a, R: Threads + Sync>(
     rt: &R,
     alloc: Global,
     table: &'a str,
+    counts: &[&str],
 ) -> Result<Option<&'a str>, Memory> {
     let mut job = String::new(alloc);
     for line in table.lines() {
         if let Some(file) = line.strip_prefix('#') {
             let lines = plain(alloc, file)?;
             job = format!(in alloc; "version = 1\n{lines}")?;
-        } else if !holds(rt, alloc, job.as_str(), line, "1")?
-            || !holds(rt, alloc, job.as_str(), line, "4")?
-        {
+        } else if !always_holds(rt, alloc, job.as_str(), line, counts)? {
             return Ok(Some(line));
         }
     }
@@ -213,28 +253,28 @@ fn first_wrong<'a, R: Threads + Sync>(
 
 #[test]
 fn jobs_over_lines(rt: HostRuntime) -> Result<(), Fail> {
-    let wrong = first_wrong(&rt, rt.alloc(), LINE_JOBS)?;
+    let wrong = first_wrong(&rt, rt.alloc(), LINE_JOBS, &["1", "2", "4", "32"])?;
     assert!(rt; wrong.is_none(), "{wrong:?}");
     Ok(())
 }
 
 #[test]
 fn jobs_over_grids(rt: HostRuntime) -> Result<(), Fail> {
-    let wrong = first_wrong(&rt, rt.alloc(), GRID_JOBS)?;
+    let wrong = first_wrong(&rt, rt.alloc(), GRID_JOBS, &["1", "4"])?;
     assert!(rt; wrong.is_none(), "{wrong:?}");
     Ok(())
 }
 
 #[test]
 fn jobs_over_the_array_of_all_workers(rt: HostRuntime) -> Result<(), Fail> {
-    let wrong = first_wrong(&rt, rt.alloc(), SHARED_ARRAY)?;
+    let wrong = first_wrong(&rt, rt.alloc(), SHARED_ARRAY, &["1", "3", "4"])?;
     assert!(rt; wrong.is_none(), "{wrong:?}");
     Ok(())
 }
 
 #[test]
 fn jobs_of_several_rounds(rt: HostRuntime) -> Result<(), Fail> {
-    let wrong = first_wrong(&rt, rt.alloc(), ROUND_JOBS)?;
+    let wrong = first_wrong(&rt, rt.alloc(), ROUND_JOBS, &["1", "4"])?;
     assert!(rt; wrong.is_none(), "{wrong:?}");
     Ok(())
 }

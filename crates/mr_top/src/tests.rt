@@ -75,7 +75,7 @@ pub fn ran_on<R: Threads + Sync>(
 #[test]
 fn words_and_their_answers(rt: HostRuntime) -> Result<(), Fail> {
     let alloc = rt.alloc();
-    let cases: [(&[&str], Status, &str, &str); 9] = [
+    let cases: [(&[&str], Status, &str, &str); 10] = [
         (&["mapred"], Status::Usage, "", "fault: usage\n"),
         (
             &["mapred", "--mode", "check", "W"],
@@ -107,6 +107,12 @@ fn words_and_their_answers(rt: HostRuntime) -> Result<(), Fail> {
             Status::Job,
             "",
             "fault: job not toml\n",
+        ),
+        (
+            &["mapred", "--mode", "generate", "W", "0", "1"],
+            Status::Done,
+            "input 6\nrows 1\noutput 8\nmark 1462\n",
+            "",
         ),
         (
             &["mapred", "--mode", "generate", "W", "0", "2"],
