@@ -5,6 +5,7 @@ ghost use Rattle.mr_capacity.specs.Folds.{folded};
 ghost use Rattle.mr_capacity.specs.declared.kinds.JobKind.TheVariants as kind;
 ghost use Rattle.mr_capacity.specs.declared.kinds.KeyKind.TheVariants as keys;
 ghost use Rattle.mr_defs.specs.Rounds.{round_of};
+ghost use Rattle.mr_defs.specs.Tasks.{most_tasks};
 ghost use Rattle.mr_items.specs.FaultLines.{shown_text};
 ghost use Rattle.mr_items.specs.FoldLines.{bytes_key, fold_lines_emits, fold_lines_emissions, number_key};
 ghost use Rattle.mr_items.specs.Keys.{all_inside, byte_order};
@@ -56,7 +57,7 @@ where
     C::Cell: Send + Sync,
     requires fold { R.folded ≡ folded job.now.combiner job.now.reducer }
     requires pieces { ArePieces Boundary.Line input.now pieces.now }
-    requires few { length pieces.now ≤ 1048576 }
+    requires few { length pieces.now ≤ most_tasks }
     ensures ending { MeetsSeen (λ o. o.text) (ended_by shown_text (texted (rows_text (λ k. k))
         (round_of byte_order all_inside false (folded job.now.combiner job.now.reducer) (fold_lines_emissions bytes_key input.now))))
         result }
@@ -81,7 +82,7 @@ fn byte_lines<'a, T: Threads + Sync, G: Gate + Sync>(
     requires kind { job.now.job ≡ kind.FoldLines }
     requires keys { job.now.keys ≡ keys.Bytes }
     requires pieces { ArePieces Boundary.Line input.now pieces.now }
-    requires few { length pieces.now ≤ 1048576 }
+    requires few { length pieces.now ≤ most_tasks }
     ensures ending { MeetsSeen (λ o. o.text) (ended_by shown_text (texted (rows_text (λ k. k))
         (round_of byte_order all_inside false (folded job.now.combiner job.now.reducer) (fold_lines_emissions bytes_key input.now))))
         result }
@@ -107,7 +108,7 @@ fn number_rows<T: Threads + Sync, G: Gate + Sync, M: Mapper<Key = NumKey, Value 
 ) -> Result<Round<NumKey>, Stop<Fault<NumKey>>>
     requires kind { job.now.job ≡ kind.FoldLines }
     requires keys { job.now.keys ≡ keys.Numbers }
-    requires tasks { M.task_count mapper.now ≤ 1048576 }
+    requires tasks { M.task_count mapper.now ≤ most_tasks }
     ensures rows { MeetsSeen (λ r. r.rows) (round_of nat_cmp (inside_of job.now.container job.now.capacity)
         (is_shared job.now.container) (folded job.now.combiner job.now.reducer)
         (flat_map (M.task_emissions mapper.now) (range_with_len 0 (M.task_count mapper.now)))) result }
@@ -135,7 +136,7 @@ fn number_lines<'a, T: Threads + Sync, G: Gate + Sync>(
     requires kind { job.now.job ≡ kind.FoldLines }
     requires keys { job.now.keys ≡ keys.Numbers }
     requires pieces { ArePieces Boundary.Line input.now pieces.now }
-    requires few { length pieces.now ≤ 1048576 }
+    requires few { length pieces.now ≤ most_tasks }
     ensures ending { MeetsSeen (λ o. o.text) (ended_by decimal (texted (rows_text decimal)
         (round_of nat_cmp (inside_of job.now.container job.now.capacity) (is_shared job.now.container)
         (folded job.now.combiner job.now.reducer)

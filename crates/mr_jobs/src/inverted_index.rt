@@ -2,6 +2,7 @@ ghost use Rattle.std.specs.Prelude.{◌≡◌, ◌≤◌, All, IfOk, false, leng
 ghost use Rattle.mr_capacity.specs.Folds.{folded};
 ghost use Rattle.mr_capacity.specs.declared.kinds.JobKind.TheVariants as kind;
 ghost use Rattle.mr_defs.specs.Rounds.{round_of};
+ghost use Rattle.mr_defs.specs.Tasks.{most_tasks};
 ghost use Rattle.mr_items.specs.FaultLines.{shown_text};
 ghost use Rattle.mr_items.specs.InvertedIndex.{inverted_index_emits, inverted_index_emissions};
 ghost use Rattle.mr_items.specs.Keys.{all_inside, byte_order};
@@ -47,7 +48,7 @@ where
     C::Cell: Send + Sync,
     requires fold { R.folded ≡ folded job.now.combiner job.now.reducer }
     requires pieces { ArePieces Boundary.Line input.now pieces.now }
-    requires few { length pieces.now ≤ 1048576 }
+    requires few { length pieces.now ≤ most_tasks }
     ensures ending { MeetsSeen (λ o. o.text) (ended_by shown_text (texted (rows_text (λ k. k))
         (round_of byte_order all_inside false (folded job.now.combiner job.now.reducer) (inverted_index_emissions input.now)))) result }
     ensures of_inputs { IsOfInputs result }
@@ -70,7 +71,7 @@ fn combined<'a, T: Threads + Sync, G: Gate + Sync>(
 ) -> Result<Output, Stop<Refusal>>
     requires kind { job.now.job ≡ kind.InvertedIndex }
     requires pieces { ArePieces Boundary.Line input.now pieces.now }
-    requires few { length pieces.now ≤ 1048576 }
+    requires few { length pieces.now ≤ most_tasks }
     ensures ending { MeetsSeen (λ o. o.text) (ended_by shown_text (texted (rows_text (λ k. k))
         (round_of byte_order all_inside false (folded job.now.combiner job.now.reducer) (inverted_index_emissions input.now)))) result }
     ensures of_inputs { IsOfInputs result }

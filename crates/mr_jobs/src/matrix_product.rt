@@ -4,7 +4,7 @@ ghost use Rattle.std.specs.Ordering.{nat_cmp};
 ghost use Rattle.mr_capacity.specs.Folds.{folded};
 ghost use Rattle.mr_capacity.specs.declared.kinds.JobKind.TheVariants as kind;
 ghost use Rattle.mr_defs.specs.Rounds.{round_of};
-ghost use Rattle.mr_defs.specs.Tasks.{spans_of};
+ghost use Rattle.mr_defs.specs.Tasks.{most_tasks, spans_of};
 ghost use Rattle.mr_items.specs.Grid.{columns_of};
 ghost use Rattle.mr_items.specs.MatrixProduct.{is_product_shape, matrix_product_emits, matrix_product_emissions};
 ghost use Rattle.mr_items.specs.Texts.{rows_text};
@@ -52,7 +52,7 @@ fn product_rows<T: Threads + Sync, G: Gate + Sync, M: Mapper<Key = NumKey, Value
     mapper: &M,
 ) -> Result<Round<NumKey>, Stop<Fault<NumKey>>>
     requires kind { job.now.job ≡ kind.MatrixProduct }
-    requires tasks { M.task_count mapper.now ≤ 1048576 }
+    requires tasks { M.task_count mapper.now ≤ most_tasks }
     ensures rows { MeetsSeen (λ r. r.rows) (round_of nat_cmp (inside_of job.now.container job.now.capacity)
         (is_shared job.now.container) (folded job.now.combiner job.now.reducer)
         (flat_map (M.task_emissions mapper.now) (range_with_len 0 (M.task_count mapper.now)))) result }

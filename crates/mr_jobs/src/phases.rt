@@ -8,6 +8,7 @@ ghost use Rattle.mr_base.specs.Noting.{noted_of};
 ghost use Rattle.mr_defs.specs.Emission.{Emission};
 ghost use Rattle.mr_defs.specs.Partitions.{concatenated};
 ghost use Rattle.mr_defs.specs.Rounds.{round_of};
+ghost use Rattle.mr_defs.specs.Tasks.{most_tasks};
 ghost use Rattle.mr_jobs.specs.Meets.{MeetsSeen};
 ghost use Rattle.mr_jobs.specs.Shares.{AreShares, IsLawfulRound};
 ghost use Rattle.mr_phase.specs.Spread.{IsSpreadOf};
@@ -49,7 +50,7 @@ fn map_tasks<
 where
     L::Key: Send,
     L::Value: Send,
-    requires few { M.task_count mapper.now ≤ 1048576 }
+    requires few { M.task_count mapper.now ≤ most_tasks }
     requires locals { (length locals.items ≡ workers.now.count) × All (λ local. L.stands local []) locals.items }
     ensures count { IfOk result (λ hands. length hands ≡ workers.now.count) }
     ensures once { IfOk result (λ hands. IsPermutation (range_with_len 0 (M.task_count mapper.now)) (flat_map (λ h. h.tasks.items) hands)) }
@@ -165,7 +166,7 @@ where
     L::Value: Send,
     L::Fold: Send,
     <L::Fold as Combiner>::Cell: Send,
-    requires few { M.task_count mapper.now ≤ 1048576 }
+    requires few { M.task_count mapper.now ≤ most_tasks }
     requires locals { (length locals.items ≡ workers.now.count) × All (λ local. L.stands local []) locals.items }
     ensures rows { MeetsSeen (λ r. r.rows) (round_of L.Key.cmp L.inside false R.folded
         (flat_map (M.task_emissions mapper.now) (range_with_len 0 (M.task_count mapper.now)))) result }

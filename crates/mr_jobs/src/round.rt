@@ -3,6 +3,7 @@ ghost use Rattle.std.specs.List.{flat_map, range_with_len};
 ghost use Rattle.std.specs.Ordering.{nat_cmp};
 ghost use Rattle.mr_capacity.specs.Folds.{folded};
 ghost use Rattle.mr_defs.specs.Rounds.{round_of};
+ghost use Rattle.mr_defs.specs.Tasks.{most_tasks};
 ghost use Rattle.mr_items.specs.Keys.{all_inside, below};
 ghost use Rattle.mr_jobs.specs.JobEnding.{inside_of, is_shared};
 ghost use Rattle.mr_jobs.specs.Meets.{MeetsSeen};
@@ -73,7 +74,7 @@ where
     M::Key: Send + Sync,
     M::Value: Send,
     C::Cell: Send + Sync,
-    requires tasks { M.task_count mapper.now ≤ 1048576 }
+    requires tasks { M.task_count mapper.now ≤ most_tasks }
     ensures rows { MeetsSeen (λ r. r.rows) (round_of M.Key.cmp all_inside false R.folded
         (flat_map (M.task_emissions mapper.now) (range_with_len 0 (M.task_count mapper.now)))) result }
     ensures shares { IfOk result (λ r. IsLawfulRound M.Key.cmp all_inside workers.now.count
@@ -117,7 +118,7 @@ fn in_array<
 where
     M::Value: Send,
     C::Cell: Send + Sync,
-    requires tasks { M.task_count mapper.now ≤ 1048576 }
+    requires tasks { M.task_count mapper.now ≤ most_tasks }
     requires size { size ≡ S.size }
     requires some { 1 ≤ size }
     requires few { size ≤ 65536 }
@@ -141,7 +142,7 @@ fn array_round<
 where
     M::Value: Send,
     C::Cell: Send + Sync,
-    requires tasks { M.task_count mapper.now ≤ 1048576 }
+    requires tasks { M.task_count mapper.now ≤ most_tasks }
     ensures rows { MeetsSeen (λ r. r.rows) (round_of nat_cmp (below job.now.capacity) false R.folded
         (flat_map (M.task_emissions mapper.now) (range_with_len 0 (M.task_count mapper.now)))) result }
     ensures shares { IfOk result (λ r. IsLawfulRound nat_cmp (below job.now.capacity) workers.now.count
@@ -161,7 +162,7 @@ pub(crate) fn number_round<
 where
     M::Value: Send,
     C::Cell: Send + Sync,
-    requires tasks { M.task_count mapper.now ≤ 1048576 }
+    requires tasks { M.task_count mapper.now ≤ most_tasks }
     requires own { is_shared job.now.container ≡ false }
     ensures rows { MeetsSeen (λ r. r.rows) (round_of nat_cmp (inside_of job.now.container job.now.capacity)
         (is_shared job.now.container) R.folded
@@ -186,7 +187,7 @@ pub(crate) fn own_round<
 >(workers: &Workers<T, G>, job: &Job, mapper: &M) -> Result<Round<NumKey>, Stop<Fault<NumKey>>>
 where
     C::Cell: Send + Sync,
-    requires tasks { M.task_count mapper.now ≤ 1048576 }
+    requires tasks { M.task_count mapper.now ≤ most_tasks }
     requires own { is_shared job.now.container ≡ false }
     requires fold { R.folded ≡ folded job.now.combiner job.now.reducer }
     ensures rows { MeetsSeen (λ r. r.rows) (round_of nat_cmp (inside_of job.now.container job.now.capacity) (is_shared job.now.container)

@@ -10,6 +10,7 @@ ghost use Rattle.mr_defs.specs.Faulty.{common_faults_of};
 ghost use Rattle.mr_defs.specs.Folded.{once_folded};
 ghost use Rattle.mr_defs.specs.Rounds.{round_of};
 ghost use Rattle.mr_defs.specs.Rows.{cells_of, rows_of};
+ghost use Rattle.mr_defs.specs.Tasks.{most_tasks};
 ghost use Rattle.mr_items.specs.Keys.{below};
 ghost use Rattle.mr_jobs.specs.JobEnding.{inside_of, is_shared};
 ghost use Rattle.mr_jobs.specs.Meets.{MeetsSeen};
@@ -37,7 +38,7 @@ fn map_shared<T: Threads + Sync, G: Gate + Sync, M: Mapper<Key = NumKey, Value =
     mapper: &M,
     size: u32,
 ) -> Result<CommonDone, Memory>
-    requires few { M.task_count mapper.now ≤ 1048576 }
+    requires few { M.task_count mapper.now ≤ most_tasks }
     requires size { (1 ≤ size) × (size ≤ 65536) }
     ensures count { IfOk result (λ done. length done.hands.items ≡ workers.now.count) }
     ensures once { IfOk result (λ done. IsPermutation (range_with_len 0 (M.task_count mapper.now))
@@ -84,7 +85,7 @@ fn common_round<T: Threads + Sync, G: Gate + Sync, M: Mapper<Key = NumKey, Value
     job: &Job,
     mapper: &M,
 ) -> Result<Round<NumKey>, Stop<Fault<NumKey>>>
-    requires tasks { M.task_count mapper.now ≤ 1048576 }
+    requires tasks { M.task_count mapper.now ≤ most_tasks }
     ensures rows { MeetsSeen (λ r. r.rows) (round_of nat_cmp (below job.now.capacity) true once_folded
         (flat_map (M.task_emissions mapper.now) (range_with_len 0 (M.task_count mapper.now)))) result }
     ensures shares { IfOk result (λ r. IsLawfulRound nat_cmp (below job.now.capacity) workers.now.count
@@ -106,7 +107,7 @@ pub(crate) fn once_round<
     G: Gate + Sync,
     M: Mapper<Key = NumKey, Value = i64> + Sync,
 >(workers: &Workers<T, G>, job: &Job, mapper: &M) -> Result<Round<NumKey>, Stop<Fault<NumKey>>>
-    requires tasks { M.task_count mapper.now ≤ 1048576 }
+    requires tasks { M.task_count mapper.now ≤ most_tasks }
     requires shared { job.now.container ≡ container.Common }
     requires once { job.now.combiner ≡ combiner.Once }
     ensures rows { MeetsSeen (λ r. r.rows) (round_of nat_cmp (inside_of job.now.container job.now.capacity) (is_shared job.now.container)

@@ -3,6 +3,7 @@ ghost use Rattle.std.specs.Ordering.{nat_cmp};
 ghost use Rattle.mr_capacity.specs.Folds.{folded};
 ghost use Rattle.mr_capacity.specs.declared.kinds.JobKind.TheVariants as kind;
 ghost use Rattle.mr_defs.specs.Rounds.{round_of};
+ghost use Rattle.mr_defs.specs.Tasks.{most_tasks};
 ghost use Rattle.mr_items.specs.Lines.{line_places};
 ghost use Rattle.mr_items.specs.StringMatch.{string_match_emits, string_match_emissions};
 ghost use Rattle.mr_items.specs.Texts.{rows_text};
@@ -47,7 +48,7 @@ where
     requires own { is_shared job.now.container ≡ false }
     requires fold { R.folded ≡ folded job.now.combiner job.now.reducer }
     requires pieces { ArePieces Boundary.Line input.now pieces.now }
-    requires few { length pieces.now ≤ 1048576 }
+    requires few { length pieces.now ≤ most_tasks }
     ensures ending { MeetsSeen (λ o. o.text) (ended_by decimal (texted (rows_text decimal)
         (round_of nat_cmp (inside_of job.now.container job.now.capacity) (is_shared job.now.container)
         (folded job.now.combiner job.now.reducer)
@@ -72,7 +73,7 @@ fn combined<'a, T: Threads + Sync, G: Gate + Sync>(
 ) -> Result<Output, Stop<Refusal>>
     requires kind { job.now.job ≡ kind.StringMatch }
     requires pieces { ArePieces Boundary.Line input.now pieces.now }
-    requires few { length pieces.now ≤ 1048576 }
+    requires few { length pieces.now ≤ most_tasks }
     ensures ending { MeetsSeen (λ o. o.text) (ended_by decimal (texted (rows_text decimal)
         (round_of nat_cmp (inside_of job.now.container job.now.capacity) (is_shared job.now.container)
         (folded job.now.combiner job.now.reducer)
