@@ -1,7 +1,10 @@
 -- Cells by place.
-use Rattle.std.proofs.Common.{◌≡◌, ◌≢◌, ℕ, zero, suc, ◌+◌, ◌<◌, ◌≤◌, ◌==◌, Bool, true, false, cond, List, [], ◌∷◌, ◌++◌, length, get_or, set, map, filter, replicate, Option, Some, None, is_some, Result, Ok, Err, OnOk, inl, inr, refl, sym, ap, subst, ◌∙◌, arith}
+use Rattle.std.proofs.Common.{◌≡◌, ◌≢◌, ℕ, zero, suc, ◌+◌, ◌<◌, ◌≤◌, ◌==◌, Bool, true, false, cond, List, [], ◌∷◌, ◌++◌, length, get_or}
+use Rattle.std.proofs.Common.{set, map, filter, replicate, Option, Some, None, is_some, Result, Ok, Err, OnOk, inl, inr, refl, sym, ap}
+use Rattle.std.proofs.Common.{subst, ◌∙◌, append_assoc, append-nil, arith}
 use Rattle.std.specs.List.{IsDistinct, AllByRecursion, range_with_len}
-use Rattle.std.proofs.lemmas.List.{get_or-replicate, get_or_past, get_or-set_same, get_or-set_other, length-replicate}
+use Rattle.std.proofs.lemmas.List.{get_or-replicate, get_or_past, get_or-set_same, get_or-set_other, length-replicate, length-set}
+use Rattle.std.proofs.lemmas.List.{set-get_or, set-set}
 use Rattle.std.proofs.lemmas.List.FromFn.{get_or-range_with_len}
 use Rattle.std.proofs.lemmas.Bool.Decides.{eqb_tells}
 use Rattle.std.proofs.lemmas.Bool.{cases_lt, lt-ltb, le-ltb}
@@ -12,6 +15,8 @@ use Rattle.mr_defs.specs.Emission.{Emission, Pair}
 use Rattle.mr_defs.specs.Commutative.{IsCommutative, joined}
 use Rattle.mr_defs.specs.Faulty.{Noted}
 use Rattle.mr_defs.specs.Stands.{StandsFor}
+use Rattle.mr_combine.specs.Runs.{added}
+use Rattle.mr_container.specs.Block.{run_emissions}
 use Rattle.mr_container.specs.Partition.{IsPartition}
 use Rattle.mr_container.proofs.Emitted.{after_pair}
 use Rattle.mr_container.proofs.Entries.{same_tied, tied_same, part_of_distinct}
@@ -46,33 +51,43 @@ module _ {C : Type 0} where
   ]
 
   -- a cell is put in at a place
-  filled_set : (cells : List (Option C)) (i : ℕ) (c : C) → i < length cells → filled (set cells i (Some c)) ≡ cond (is_some (get_or cells i None)) (filled cells) (filled cells + 1)
+  filled_set : (cells : List (Option C)) (i : ℕ) (c : C) → i < length cells
+      → filled (set cells i (Some c)) ≡ cond (is_some (get_or cells i None)) (filled cells) (filled cells + 1)
   filled_set [] i c h = absurd (omega (arith, h))
   filled_set (None ∷ cells) zero c h = omega arith
   filled_set (Some x ∷ cells) zero c h = refl
   filled_set (None ∷ cells) (suc i) c h = filled_set cells i c (omega (arith, h))
-  filled_set (Some x ∷ cells) (suc i) c h = ap suc (filled_set cells i c (omega (arith, h))) ∙ elim (is_some (get_or cells i None)) as (λ t. suc (cond t (filled cells) (filled cells + 1)) ≡ cond t (suc (filled cells)) (suc (filled cells) + 1)) [ true ↦ refl | false ↦ omega arith ]
+  filled_set (Some x ∷ cells) (suc i) c h = ap suc (filled_set cells i c (omega (arith, h)))
+      ∙ elim (is_some (get_or cells i None)) as (λ t. suc (cond t (filled cells) (filled cells + 1))
+      ≡ cond t (suc (filled cells)) (suc (filled cells) + 1)) [ true ↦ refl | false ↦ omega arith ]
 
-  cell_set : (cells : List (Option C)) (k : ℕ) (c : C) → k < length cells → (q : ℕ) → cell_in (set cells k (Some c)) q ≡ cond (eq_by_cmp nat_cmp q k) (Some c) (cell_in cells q)
+  cell_set : (cells : List (Option C)) (k : ℕ) (c : C) → k < length cells → (q : ℕ)
+      → cell_in (set cells k (Some c)) q ≡ cond (eq_by_cmp nat_cmp q k) (Some c) (cell_in cells q)
   cell_set cells k c h q = elim (eqb_tells q k) [
-    | inl same ↦ ap (λ n. get_or (set cells k (Some c)) n None) same.1 ∙ get_or-set_same cells k (Some c) None h ∙ sym (ap (λ t. cond t (Some c) (cell_in cells q)) (same_key q k same.1))
-    | inr other ↦ get_or-set_other cells k q (Some c) None other.1 ∙ sym (ap (λ t. cond t (Some c) (cell_in cells q)) (other_key q k other.1))
+    | inl same ↦ ap (λ n. get_or (set cells k (Some c)) n None) same.1 ∙ get_or-set_same cells k (Some c) None h
+        ∙ sym (ap (λ t. cond t (Some c) (cell_in cells q)) (same_key q k same.1))
+    | inr other ↦ get_or-set_other cells k q (Some c) None other.1
+        ∙ sym (ap (λ t. cond t (Some c) (cell_in cells q)) (other_key q k other.1))
   ]
 
   -- a key is found at its place
   find_before : (cells : List (Option C)) (i q : ℕ) → q < i → find nat_cmp q (numbered i cells) ≡ None
   find_before [] i q h = refl
   find_before (None ∷ cells) i q h = find_before cells (i + 1) q (omega (arith, h))
-  find_before (Some c ∷ cells) i q h = ap (λ t. cond t (Some c) (find nat_cmp q (numbered (i + 1) cells))) (other_key q i (λ e. absurd (omega (arith, h, e)))) ∙ find_before cells (i + 1) q (omega (arith, h))
+  find_before (Some c ∷ cells) i q h = ap (λ t. cond t (Some c) (find nat_cmp q (numbered (i + 1) cells)))
+      (other_key q i (λ e. absurd (omega (arith, h, e)))) ∙ find_before cells (i + 1) q (omega (arith, h))
 
   find_numbered : (cells : List (Option C)) (i j q : ℕ) → q ≡ i + j → find nat_cmp q (numbered i cells) ≡ get_or cells j None
   find_numbered [] i j q e = sym (get_or_past [] j None (omega arith))
   find_numbered (None ∷ cells) i zero q e = find_before cells (i + 1) q (omega (arith, e))
   find_numbered (None ∷ cells) i (suc j) q e = find_numbered cells (i + 1) j q (omega (arith, e))
-  find_numbered (Some c ∷ cells) i zero q e = ap (λ t. cond t (Some c) (find nat_cmp q (numbered (i + 1) cells))) (same_key q i (omega (arith, e)))
-  find_numbered (Some c ∷ cells) i (suc j) q e = ap (λ t. cond t (Some c) (find nat_cmp q (numbered (i + 1) cells))) (other_key q i (λ s. absurd (omega (arith, e, s)))) ∙ find_numbered cells (i + 1) j q (omega (arith, e))
+  find_numbered (Some c ∷ cells) i zero q e =
+      ap (λ t. cond t (Some c) (find nat_cmp q (numbered (i + 1) cells))) (same_key q i (omega (arith, e)))
+  find_numbered (Some c ∷ cells) i (suc j) q e = ap (λ t. cond t (Some c) (find nat_cmp q (numbered (i + 1) cells)))
+      (other_key q i (λ s. absurd (omega (arith, e, s)))) ∙ find_numbered cells (i + 1) j q (omega (arith, e))
 
-  above : (cells : List (Option C)) (i x : ℕ) → x < i → AllByRecursion (λ y. eq_by_cmp nat_cmp x y ≡ false) (map (λ e. e.0) (numbered i cells))
+  above : (cells : List (Option C)) (i x : ℕ) → x < i
+      → AllByRecursion (λ y. eq_by_cmp nat_cmp x y ≡ false) (map (λ e. e.0) (numbered i cells))
   above [] i x h = tt
   above (None ∷ cells) i x h = above cells (i + 1) x (omega (arith, h))
   above (Some c ∷ cells) i x h = (other_key x i (λ e. absurd (omega (arith, h, e))), above cells (i + 1) x (omega (arith, h)))
@@ -83,7 +98,8 @@ module _ {C : Type 0} where
   distinct (None ∷ cells) i = distinct cells (i + 1)
   distinct (Some c ∷ cells) i = (above cells (i + 1) i (omega arith), distinct cells (i + 1))
 
-  pub part_of_cells : (part_of : ℕ → ℕ) (part : ℕ) (cells : List (Option C)) → IsPartition nat_cmp (cell_in cells) part_of part (filter (λ e. part_of e.0 == part) (numbered 0 cells))
+  pub part_of_cells : (part_of : ℕ → ℕ) (part : ℕ) (cells : List (Option C))
+      → IsPartition nat_cmp (cell_in cells) part_of part (filter (λ e. part_of e.0 == part) (numbered 0 cells))
   part_of_cells part_of part cells =
       let whole = part_of_distinct nat_cmp nat_cmp-IsAntisymmetric part_of part (numbered 0 cells) (distinct cells 0) in
       record {
@@ -92,18 +108,58 @@ module _ {C : Type 0} where
       }
 
 -- a pair of a key comes to its place
-module _ {C V : Type 0} (inside : ℕ → Bool) (unit : V → C) {merged : C → C → C} (laws : IsCommutative merged) (cells : List (Option C)) (noted : Noted ℕ) (k place : ℕ) (at : place ≡ k) (v : V) (within : place < length cells) (h : inside k ≡ true) where
-  pub emitted : (new : C) → Some new ≡ joined merged (cell_in cells place) (Some (unit v)) → (es : List (Emission ℕ V)) → StandsFor nat_cmp inside unit merged (cell_in cells) (filled cells) noted es
-      → StandsFor nat_cmp inside unit merged (cell_in (set cells place (Some new))) (filled (set cells place (Some new))) noted (es ++ Pair k v ∷ [])
+module _ {C V : Type 0} (inside : ℕ → Bool) (unit : V → C) {merged : C → C → C} (laws : IsCommutative merged) (cells : List (Option C))
+    (noted : Noted ℕ) (k place : ℕ) (at : place ≡ k) (v : V) (within : place < length cells) (h : inside k ≡ true) where
+  pub emitted : (new : C) → Some new ≡ joined merged (cell_in cells place) (Some (unit v)) → (es : List (Emission ℕ V))
+      → StandsFor nat_cmp inside unit merged (cell_in cells) (filled cells) noted es
+      → StandsFor nat_cmp inside unit merged (cell_in (set cells place (Some new))) (filled (set cells place (Some new))) noted
+      (es ++ Pair k v ∷ [])
   emitted new is es was =
-      after_pair nat_cmp_total nat_cmp-IsAntisymmetric inside unit laws (cell_in cells) (filled cells) noted es was (cell_in (set cells place (Some new))) (filled (set cells place (Some new))) k v h
-      (λ q. cell_set cells place new within q ∙ ap (λ x. cond (eq_by_cmp nat_cmp q place) x (cell_in cells q)) is ∙ ap (λ n. cond (eq_by_cmp nat_cmp q n) (joined merged (cell_in cells n) (Some (unit v))) (cell_in cells q)) at)
+      after_pair nat_cmp_total nat_cmp-IsAntisymmetric inside unit laws (cell_in cells) (filled cells) noted es was
+      (cell_in (set cells place (Some new))) (filled (set cells place (Some new))) k v h
+      (λ q. cell_set cells place new within q ∙ ap (λ x. cond (eq_by_cmp nat_cmp q place) x (cell_in cells q)) is
+      ∙ ap (λ n. cond (eq_by_cmp nat_cmp q n) (joined merged (cell_in cells n) (Some (unit v))) (cell_in cells q)) at)
       (filled_set cells place new within ∙ ap (λ n. cond (is_some (cell_in cells n)) (filled cells) (filled cells + 1)) at)
 
   pub emitted_ok : {A E : Type 0} → (old new : C) (r : Result A E) → cell_in cells place ≡ Some old → OnOk r (new ≡ merged old (unit v))
-      → OnOk r ((es : List (Emission ℕ V)) → StandsFor nat_cmp inside unit merged (cell_in cells) (filled cells) noted es → StandsFor nat_cmp inside unit merged (cell_in (set cells place (Some new))) (filled (set cells place (Some new))) noted (es ++ Pair k v ∷ []))
+      → OnOk r ((es : List (Emission ℕ V)) → StandsFor nat_cmp inside unit merged (cell_in cells) (filled cells) noted es
+      → StandsFor nat_cmp inside unit merged (cell_in (set cells place (Some new))) (filled (set cells place (Some new))) noted
+      (es ++ Pair k v ∷ []))
   emitted_ok old new (Ok a) was is = emitted new (ap Some is ∙ ap (λ x. joined merged x (Some (unit v))) (sym was))
   emitted_ok old new (Err e) was is = tt
+
+-- the pairs of a run come to their key's place
+module _ {C V : Type 0} (inside : ℕ → Bool) (unit : V → C) {merged : C → C → C} (laws : IsCommutative merged) (noted : Noted ℕ)
+    (k place : ℕ) (at : place ≡ k) (h : inside k ≡ true) where
+  emitted_run : (vs : List V) (cells : List (Option C)) (old : C) → place < length cells → cell_in cells place ≡ Some old
+      → (es : List (Emission ℕ V))
+      → StandsFor nat_cmp inside unit merged (cell_in cells) (filled cells) noted es
+      → let new = set cells place (Some (added unit merged old vs)) in
+      StandsFor nat_cmp inside unit merged (cell_in new) (filled new) noted (es ++ run_emissions k vs)
+  emitted_run [] cells old within was es stands =
+      let same : set cells place (Some old) ≡ cells = ap (set cells place) (sym was) ∙ set-get_or cells place None in
+      subst (λ cs. StandsFor nat_cmp inside unit merged (cell_in cs) (filled cs) noted (es ++ [])) (sym same)
+      (subst (StandsFor nat_cmp inside unit merged (cell_in cells) (filled cells) noted) (sym (append-nil es)) stands)
+  emitted_run (v ∷ vs) cells old within was es stands =
+      let next = merged old (unit v) in
+      let mid = set cells place (Some next) in
+      let there : cell_in mid place ≡ Some next = get_or-set_same cells place (Some next) None within in
+      let twice : set mid place (Some (added unit merged next vs)) ≡ set cells place (Some (added unit merged next vs)) =
+      set-set cells place (Some next) (Some (added unit merged next vs)) in
+      subst (λ cs. StandsFor nat_cmp inside unit merged (cell_in cs) (filled cs) noted (es ++ run_emissions k (v ∷ vs))) twice
+      (subst (StandsFor nat_cmp inside unit merged (cell_in (set mid place (Some (added unit merged next vs))))
+      (filled (set mid place (Some (added unit merged next vs)))) noted) (append_assoc es (Pair k v ∷ []) (run_emissions k vs))
+      (emitted_run vs mid next (subst (λ l. place < l) (sym (length-set cells place (Some next))) within) there (es ++ Pair k v ∷ [])
+      (emitted inside unit laws cells noted k place at v within h next (ap (λ c. joined merged c (Some (unit v))) (sym was)) es stands)))
+
+  pub emitted_run_is : (vs : List V) (cells : List (Option C)) (old new : C) → place < length cells → cell_in cells place ≡ Some old
+      → new ≡ added unit merged old vs → (es : List (Emission ℕ V))
+      → StandsFor nat_cmp inside unit merged (cell_in cells) (filled cells) noted es
+      → StandsFor nat_cmp inside unit merged (cell_in (set cells place (Some new))) (filled (set cells place (Some new))) noted
+      (es ++ run_emissions k vs)
+  emitted_run_is vs cells old new within was is es stands =
+      subst (λ c. StandsFor nat_cmp inside unit merged (cell_in (set cells place (Some c))) (filled (set cells place (Some c))) noted
+      (es ++ run_emissions k vs)) (sym is) (emitted_run vs cells old within was es stands)
 
 -- the key that stands at a place
 pub key_there : (keys : List ℕ) (n i x : ℕ) → keys ≡ range_with_len 0 n → i < n → x ≡ get_or keys i x → x ≡ i

@@ -1,5 +1,6 @@
 -- How the places are read, part by part.
-use Rattle.std.proofs.Common.{◌≡◌, ◌≢◌, ℕ, zero, suc, ◌+◌, ◌-◌, ◌*◌, ◌/◌, ◌%◌, ◌<◌, ◌≤◌, ◌==◌, cond, List, [], ◌∷◌, length, get_or, filter, drop, Option, Some, None, inl, inr, refl, sym, ap, subst, ◌∙◌, arith, eq-eqb}
+use Rattle.std.proofs.Common.{◌≡◌, ◌≢◌, ℕ, zero, suc, ◌+◌, ◌-◌, ◌*◌, ◌/◌, ◌%◌, ◌<◌, ◌≤◌, ◌==◌, cond, List, [], ◌∷◌, length, get_or, filter}
+use Rattle.std.proofs.Common.{drop, Option, Some, None, inl, inr, refl, sym, ap, subst, ◌∙◌, arith, eq-eqb}
 use Rattle.std.proofs.lemmas.List.{get_or_default, drop_all, drop_more}
 use Rattle.std.proofs.lemmas.Bool.{cases_lt}
 use Rattle.std.proofs.Math.Nat.{div-add-mod, mul-add-mod_self_left, mod-eq_of_lt, mod-eq-sub-mod, mod-lt}
@@ -46,7 +47,8 @@ module _ {C : Type 0} (parts part : ℕ) (cells : List (Option C)) where
     | inl l ↦ elim (get_or cells place None) as (λ x. get_or cells place None ≡ x → rest place ≡ rest (place + 1)) [
       | None ↦ λ is. passed_empty place l (sym is)
       | Some c ↦ λ is.
-          ap (λ l. filter (λ e. e.0 % parts == part) (numbered place l)) (split place (Some c) l (sym is ∙ get_or_default cells place None (Some c) l))
+          ap (λ l. filter (λ e. e.0 % parts == part) (numbered place l))
+          (split place (Some c) l (sym is ∙ get_or_default cells place None (Some c) l))
           ∙ ap (λ t. cond t ((place, c) ∷ rest (place + 1)) (rest (place + 1))) (not_equal (place % parts) part h)
     ] refl
   ]
@@ -73,7 +75,9 @@ module _ {C : Type 0} (parts part : ℕ) (cells : List (Option C)) where
   module _ (some : 1 ≤ parts) where
     -- up to the part's next place
     up_to_next : (place : ℕ) → place % parts ≡ part → rest (place + 1) ≡ rest (place + parts)
-    up_to_next place is = passed_others (parts - 1) (place + 1) (λ more l. subst (λ n. n % parts ≢ part) (next more) (other_part parts part place (more + 1) (omega arith) (omega (arith, l)) is)) ∙ ap rest end
+    up_to_next place is = passed_others (parts - 1) (place + 1)
+        (λ more l. subst (λ n. n % parts ≢ part) (next more) (other_part parts part place (more + 1) (omega arith) (omega (arith, l)) is))
+        ∙ ap rest end
       where
         next : (more : ℕ) → place + (more + 1) ≡ (place + 1) + more
         next more = omega arith
@@ -98,11 +102,14 @@ module _ {C : Type 0} (parts part : ℕ) (cells : List (Option C)) where
         none = omega arith
 
     -- the part's next place, with a cell or without
-    pub taken : (place : ℕ) (c : C) (x : Option C) → place < length cells → x ≡ get_or cells place x → x ≡ Some c → place % parts ≡ part → rest place ≡ (place, c) ∷ rest (place + parts)
+    pub taken : (place : ℕ) (c : C) (x : Option C) → place < length cells → x ≡ get_or cells place x → x ≡ Some c → place % parts ≡ part
+        → rest place ≡ (place, c) ∷ rest (place + parts)
     taken place c x l there is h =
-        ap (λ l. filter (λ e. e.0 % parts == part) (numbered place l)) (split place (Some c) l (subst (λ y. y ≡ get_or cells place y) is there))
+        ap (λ l. filter (λ e. e.0 % parts == part) (numbered place l))
+        (split place (Some c) l (subst (λ y. y ≡ get_or cells place y) is there))
         ∙ ap (λ t. cond t ((place, c) ∷ rest (place + 1)) (rest (place + 1))) (eq-eqb _ _ h)
         ∙ ap (λ l. (place, c) ∷ l) (up_to_next place h)
 
-    pub left_out : (place : ℕ) (x : Option C) → place < length cells → x ≡ get_or cells place x → x ≡ None → place % parts ≡ part → rest place ≡ rest (place + parts)
+    pub left_out : (place : ℕ) (x : Option C) → place < length cells → x ≡ get_or cells place x → x ≡ None → place % parts ≡ part
+        → rest place ≡ rest (place + parts)
     left_out place x l there is h = passed_empty place l (subst (λ y. y ≡ get_or cells place y) is there) ∙ up_to_next place h

@@ -1,15 +1,17 @@
-ghost use Rattle.std.specs.Prelude.{◌≡◌, ◌||◌, ◌≤◌, ◌<◌, ◌%◌, ◌∷◌, ◌++◌, [], ℕ, not, map, nat_lt, replicate, vec_len, Option, None, IfOk, OnOk, OnErr};
+ghost use Rattle.std.specs.Prelude.{◌≡◌, ◌||◌, ◌≤◌, ◌<◌, ◌%◌, ◌∷◌, ◌++◌, [], ℕ, not, map, nat_lt, replicate, vec_len, Option, None, IfOk};
+ghost use Rattle.std.specs.Prelude.{OnOk, OnErr};
 ghost use Rattle.std.specs.List.{range_with_len};
 ghost use Rattle.std.specs.Cmp.{nat_cmp_total};
 ghost use Rattle.std.specs.FinMap.{nat_cmp-IsAntisymmetric};
 ghost use Rattle.std.proofs.Common.{ap, refl};
+ghost use Rattle.mr_defs.specs.Limits.{greatest_capacity};
 ghost use Rattle.mr_defs.specs.Stands.{StandsFor};
 ghost use Rattle.mr_base.specs.Noting.{noted_of};
 ghost use Rattle.mr_container.specs.Laws.{any_order, kept};
 ghost use Rattle.mr_array.specs.Cells.{is_below, cell_in, filled};
 
 use mr_base::{Faults, Key, Memory, NumKey, keep_lesser};
-use mr_combine::Combiner;
+use mr_combine::{Combiner, Run};
 use mr_container::{Cursor, Local, Parted};
 use std::alloc::Global;
 use std::marker::{Brand, PhantomData};
@@ -43,7 +45,7 @@ pub struct ArrayLocal<C: Combiner, S: Size> {
     of: PhantomData<S>,
     ghost sized: { size ≡ S.size },
     ghost places: { vec_len cells ≡ S.size },
-    ghost few_places: { S.size ≤ 65536 },
+    ghost few_places: { S.size ≤ greatest_capacity },
     ghost named: { keys.items ≡ range_with_len 0 S.size },
 }
 
@@ -52,7 +54,7 @@ impl<C: Combiner, S: Size> ArrayLocal<C, S> {
     pub fn new(alloc: Global, size: u32) -> Result<ArrayLocal<C, S>, Memory>
         requires size { size ≡ S.size }
         requires some { 1 ≤ size }
-        requires few { size ≤ 65536 }
+        requires few { size ≤ greatest_capacity }
         ensures empty { IfOk result (λ local. ⟦<ArrayLocal<C, S> as Local>⟧.stands local []) }
         ensures inside { (k : ℕ) → ⟦<ArrayLocal<C, S> as Parted>⟧.inside k ≡ nat_lt k S.size }
         ensures parts { (parts k : ℕ) → ⟦<ArrayLocal<C, S> as Parted>⟧.part_of parts k ≡ k % parts }
@@ -99,7 +101,8 @@ impl<C: Combiner, S: Size> Local for ArrayLocal<C, S> {
 
     type Value = C::Value;
 
-    ghost stands = { λ s es. StandsFor ⟦<NumKey as Ord>⟧.cmp (is_below S.size) C.unit_of C.merged (cell_in s.cells.items) (filled s.cells.items) (noted_of s.faults) es };
+    ghost stands = { λ s es. StandsFor ⟦<NumKey as Ord>⟧.cmp (is_below S.size) C.unit_of C.merged (cell_in s.cells.items)
+        (filled s.cells.items) (noted_of s.faults) es };
 
     ghost noted = { λ s. noted_of s.faults };
 
@@ -115,8 +118,13 @@ impl<C: Combiner, S: Size> Local for ArrayLocal<C, S> {
 
     ghost same_refl = { λ _. (refl, refl) };
 
-    ghost same_keeps = { λ s t e.
-        (kept ⟦<NumKey as Ord>⟧.cmp (is_below S.size) C.unit_of C.merged _ _ _ _ _ _ (λ k. ap (λ cells. cell_in cells k) e.0) (ap filled e.0) e.1, e.1, ap filled e.0, λ k. refl) };
+    ghost same_keeps = { λ s t e. (
+      kept ⟦<NumKey as Ord>⟧.cmp (is_below S.size) C.unit_of C.merged _ _ _ _ _ _ (λ k. ap (λ cells. cell_in cells k) e.0)
+          (ap filled e.0) e.1,
+      e.1,
+      ap filled e.0,
+      λ k. refl,
+    ) };
 
     ghost origin_refl = { λ _. tt };
 
@@ -137,6 +145,25 @@ impl<C: Combiner, S: Size> Local for ArrayLocal<C, S> {
                 Ok(())
             }
         }
+    }
+
+    #[inline(always)]
+    fn add_run<R: Run<Value = C::Value>>(&mut self, key: &NumKey, run: &R) -> Result<bool, Memory> {
+        let size = self.size as u64;
+        if key.0 >= size {
+            return Ok(false);
+        }
+        match &mut self.cells[key.0 as usize] {
+            Some(cell) => {
+                C::add_run(cell, run)?;
+                Ok(true)
+            }
+            None => Ok(false),
+        }
+    }
+
+    fn spares_all(&self) -> bool {
+        C::is_fixed()
     }
 
     fn too_large(&mut self, key: NumKey) {
@@ -185,7 +212,10 @@ impl<C: Combiner, S: Size> Parted for ArrayLocal<C, S> {
 
     ghost same_cells = { λ s t e k. ap (λ cells. cell_in cells k) e.0 };
 
-    ghost same_cursors = { λ s t e c h. (h, ap (λ cells. filter (λ e. e.0 % c.parts == c.part) (numbered c.place (drop c.place cells))) e.0) };
+    ghost same_cursors = { λ s t e c h. (
+      h,
+      ap (λ cells. filter (λ e. e.0 % c.parts == c.part) (numbered c.place (drop c.place cells))) e.0,
+    ) };
 
     ghost spares_present = { λ s k f p. fixed_spares _ _ f };
 

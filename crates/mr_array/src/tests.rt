@@ -2,8 +2,8 @@ ghost use Rattle.std.specs.Prelude.{◌≤◌, ◌<◌};
 
 use crate::{ArrayLocal, Fixed};
 use mr_base::{Key, Memory, NumKey, Text};
-use mr_combine::{Buffer, Combiner, Single, Sum};
-use mr_container::{Local, Parted};
+use mr_combine::{Buffer, Combiner, Run, Single, Sum};
+use mr_container::{Local, Parted, SortedLocal};
 use std::alloc::Global;
 use std::test::Fail;
 
@@ -80,6 +80,54 @@ fn cells_part_by_part(rt: HostRuntime) -> Result<(), Fail> {
     let bars =
         b"0=1 |1=8 65=5 |||||6=3 |||||||||||||||||||||||||||||||||||||||||||||||||||||||||767=5 |";
     assert!(rt; shown(alloc, &local, 64)?.as_bytes() == bars.as_slice());
+    Ok(())
+}
+
+// The numbers of a list, as a run.
+#[derive(Drop)]
+struct Numbers<'a> {
+    numbers: &'a [i32],
+}
+
+impl<'a> Run for Numbers<'a> {
+    type Value = i64;
+
+    ghost values = { λ n. n.numbers.now };
+
+    fn len(&self) -> usize {
+        self.numbers.len()
+    }
+
+    fn value(&self, at: usize) -> i64 {
+        self.numbers[at] as i64
+    }
+}
+
+#[test]
+fn runs_of_one_key(rt: HostRuntime) -> Result<(), Fail> {
+    let alloc = rt.alloc();
+    let mut local: ArrayLocal<Sum, Fixed<16>> = ArrayLocal::new(alloc, 16)?;
+    let mut plain: SortedLocal<NumKey, Sum> = SortedLocal::new(alloc);
+    let runs: [(u32, &[i32]); 5] = [
+        (3, &[4, -9, 2147483647]),
+        (3, &[-1]),
+        (15, &[7, 7]),
+        (0, &[]),
+        (3, &[1, 2]),
+    ];
+    for (key, numbers) in runs {
+        let key = NumKey(key as u64);
+        local.emit_run(alloc, &key, &Numbers { numbers })?;
+        plain.emit_run(alloc, &key, &Numbers { numbers })?;
+    }
+    let want = b"3=2147483644 15=14 |".as_slice();
+    assert!(rt; shown(alloc, &local, 1)?.as_bytes() == want);
+    assert!(rt; shown(alloc, &plain, 1)?.as_bytes() == want);
+    assert!(rt; local.spares_all() && !plain.spares_all());
+    local.emit_run(alloc, &NumKey(16), &Numbers { numbers: &[] })?;
+    assert!(rt; local.faults().outside.is_none());
+    local.emit_run(alloc, &NumKey(17), &Numbers { numbers: &[1, 2] })?;
+    assert!(rt; local.faults().outside == Some(NumKey(17)) && local.cells() == 2);
     Ok(())
 }
 

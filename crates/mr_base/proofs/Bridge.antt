@@ -1,9 +1,11 @@
 -- Lists that hold each number as often are permutations of each other.
-use Rattle.std.proofs.Common.{◌≡◌, ℕ, zero, suc, ◌+◌, ◌≤◌, ◌==◌, true, false, cond, nat_lt, List, [], ◌∷◌, ◌++◌, refl, sym, ap, subst, ◌∙◌, arith, sum_by}
+use Rattle.std.proofs.Common.{◌≡◌, ℕ, zero, suc, ◌+◌, ◌≤◌, ◌==◌, true, false, cond, nat_lt, List, [], ◌∷◌, ◌++◌, refl, sym, ap, subst, ◌∙◌}
+use Rattle.std.proofs.Common.{arith, sum_by}
 use Rattle.std.specs.List.{range_with_len}
 use Rattle.std.specs.List.Sorted.{IsPermutation}
 use Rattle.std.proofs.lemmas.Bool.Decides.{nat_tests}
-use Rattle.std.proofs.lemmas.List.Sorted.{IsPermutation-refl, IsPermutation-sym, IsPermutation-cons, IsPermutation-middle, IsPermutation-trans, sum_by-IsPermutation}
+use Rattle.std.proofs.lemmas.List.Sorted.{IsPermutation-refl, IsPermutation-sym, IsPermutation-cons, IsPermutation-middle}
+use Rattle.std.proofs.lemmas.List.Sorted.{IsPermutation-trans, sum_by-IsPermutation}
 use Rattle.std.proofs.lemmas.List.Sums.{sum_by-cons}
 use Rattle.mr_base.specs.Tasks.{times}
 use Rattle.mr_base.proofs.Times.{times-append}
@@ -17,7 +19,9 @@ split_at : (x : ℕ) (ys : List ℕ) → 1 ≤ times x ys → Split x ys
 split_at x [] h = absurd (omega (arith, h))
 split_at x (y ∷ ys) h = elim (y == x) as (λ b. (y == x) ≡ b → Split x (y ∷ ys)) [
   | true ↦ λ e. let same : y ≡ x = grind (arith, nat_tests, e) in record { us = []; vs = ys; is = ap (λ z. z ∷ ys) same }
-  | false ↦ λ e. let r = split_at x ys (let q : 1 ≤ cond false 1 0 + times x ys = subst (λ b. 1 ≤ cond b 1 0 + times x ys) e h in omega (arith, q)) in record { us = y ∷ r.us; vs = r.vs; is = ap (λ l. y ∷ l) r.is }
+  | false ↦ λ e. let r = split_at x ys
+      (let q : 1 ≤ cond false 1 0 + times x ys = subst (λ b. 1 ≤ cond b 1 0 + times x ys) e h in omega (arith, q)) in
+      record { us = y ∷ r.us; vs = r.vs; is = ap (λ l. y ∷ l) r.is }
 ] refl
 
 itself : (x : ℕ) (xs : List ℕ) → 1 ≤ times x (x ∷ xs)
@@ -46,7 +50,8 @@ permuted (x ∷ xs) ys h =
     let d = times-append y s.us s.vs in
     omega (arith, a, b, c, d) in
     IsPermutation-trans (x ∷ xs) (x ∷ (s.us ++ s.vs)) ys (IsPermutation-cons x xs (s.us ++ s.vs) (permuted xs (s.us ++ s.vs) rest))
-    (subst (λ l. IsPermutation (x ∷ (s.us ++ s.vs)) l) (sym s.is) (IsPermutation-sym (s.us ++ x ∷ s.vs) (x ∷ (s.us ++ s.vs)) (IsPermutation-middle s.us x s.vs)))
+    (subst (λ l. IsPermutation (x ∷ (s.us ++ s.vs)) l) (sym s.is)
+    (IsPermutation-sym (s.us ++ x ∷ s.vs) (x ∷ (s.us ++ s.vs)) (IsPermutation-middle s.us x s.vs)))
 
 pub times-range : (x a n : ℕ) → times x (range_with_len a n) ≡ cond (nat_lt x a) 0 (cond (nat_lt x (a + n)) 1 0)
 times-range x a zero = grind (arith, nat_tests)

@@ -1,4 +1,5 @@
 mod Digits
+pub mod Spaced
 pub mod Starts
 pub mod Times
 pub mod Totals
@@ -7,3 +8,4 @@ pub mod Passes
 mod Kept
 mod Vectors
 mod Words
+pub mod Read

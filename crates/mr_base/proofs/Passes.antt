@@ -1,5 +1,6 @@
 -- A list of passes, where one more is put last, or the last is taken away.
-use Rattle.std.proofs.Common.{◌≡◌, ℕ, ◌+◌, ◌<◌, List, [], ◌∷◌, ◌++◌, length, length-append, flat_map, slice_index_or, sym, ap, ◌∙◌, arith, subst}
+use Rattle.std.proofs.Common.{◌≡◌, ℕ, ◌+◌, ◌<◌, List, [], ◌∷◌, ◌++◌, length, length-append, flat_map, slice_index_or, sym, ap, ◌∙◌, arith}
+use Rattle.std.proofs.Common.{subst}
 use Rattle.std.proofs.Math.Seq.{get_or-append_seam}
 use Rattle.std.proofs.lemmas.List.{get_or_append_left}
 use Rattle.std.proofs.lemmas.Grind.{flat_map-append}
@@ -19,7 +20,8 @@ module _ {P : Type 0} where
   at_before ps p d i lt = get_or_append_left ps (p ∷ []) d i lt
 
   -- what holds of each pass at its place still holds when one more is put last
-  pub each_push : (F : ℕ → P → Type 0) (n : ℕ) (ps : List P) (p : P) → length ps ≡ n → ((i : ℕ) (d : P) → i < n → F i (slice_index_or ps i d)) → F n p
+  pub each_push : (F : ℕ → P → Type 0) (n : ℕ) (ps : List P) (p : P) → length ps ≡ n
+      → ((i : ℕ) (d : P) → i < n → F i (slice_index_or ps i d)) → F n p
       → (i : ℕ) (d : P) → i < n + 1 → F i (slice_index_or (ps ++ p ∷ []) i d)
   each_push F n ps p len each last i d lt =
       dite (dec_lt i n)
@@ -29,15 +31,18 @@ module _ {P : Type 0} where
       subst (F i) (sym at) (subst (λ k. F k p) (sym e) last))
 
   -- and of the last, and of those before it
-  pub last_of : (F : ℕ → P → Type 0) (ps : List P) (p : P) → ((i : ℕ) (d : P) → i < length (ps ++ p ∷ []) → F i (slice_index_or (ps ++ p ∷ []) i d)) → F (length ps) p
+  pub last_of : (F : ℕ → P → Type 0) (ps : List P) (p : P)
+      → ((i : ℕ) (d : P) → i < length (ps ++ p ∷ []) → F i (slice_index_or (ps ++ p ∷ []) i d)) → F (length ps) p
   last_of F ps p each = let n = length-push ps p in subst (F (length ps)) (at_last ps p p) (each (length ps) p (omega (arith, n)))
 
-  pub before_of : (F : ℕ → P → Type 0) (ps : List P) (p : P) → ((i : ℕ) (d : P) → i < length (ps ++ p ∷ []) → F i (slice_index_or (ps ++ p ∷ []) i d))
+  pub before_of : (F : ℕ → P → Type 0) (ps : List P) (p : P)
+      → ((i : ℕ) (d : P) → i < length (ps ++ p ∷ []) → F i (slice_index_or (ps ++ p ∷ []) i d))
       → (i : ℕ) (d : P) → i < length ps → F i (slice_index_or ps i d)
   before_of F ps p each i d lt = let n = length-push ps p in subst (F i) (at_before ps p d i lt) (each i d (omega (arith, n, lt)))
 
   -- how often x was given to one of them
-  pub times-push : (given : P → List ℕ) (ps : List P) (p : P) (x : ℕ) → times x (flat_map given (ps ++ p ∷ [])) ≡ times x (flat_map given ps) + times x (given p)
+  pub times-push : (given : P → List ℕ) (ps : List P) (p : P) (x : ℕ)
+      → times x (flat_map given (ps ++ p ∷ [])) ≡ times x (flat_map given ps) + times x (given p)
   times-push given ps p x =
       let e = ap (times x) (flat_map-append given ps (p ∷ [])) in
       let a = times-append x (flat_map given ps) (flat_map given (p ∷ [])) in
@@ -45,7 +50,8 @@ module _ {P : Type 0} where
       omega (arith, e, a, b)
 
   -- two of them, taken away from the end
-  pub of_two : (F : ℕ → P → Type 0) (all mid rest : List P) (a b : P) → length all ≡ 2 → ((i : ℕ) (d : P) → i < 2 → F i (slice_index_or all i d)) → all ≡ mid ++ b ∷ [] → mid ≡ rest ++ a ∷ []
+  pub of_two : (F : ℕ → P → Type 0) (all mid rest : List P) (a b : P) → length all ≡ 2
+      → ((i : ℕ) (d : P) → i < 2 → F i (slice_index_or all i d)) → all ≡ mid ++ b ∷ [] → mid ≡ rest ++ a ∷ []
       → F 0 a × F 1 b
   of_two F all mid [] a b len each e f =
       let is : all ≡ a ∷ b ∷ [] = e ∙ ap (λ l. l ++ b ∷ []) f in

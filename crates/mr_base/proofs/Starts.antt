@@ -1,5 +1,6 @@
 -- Where the tasks of each queue begin.
-use Rattle.std.proofs.Common.{◌≡◌, ℕ, zero, suc, ◌+◌, ◌*◌, ◌/◌, ◌<◌, ◌≤◌, ◌-◌, List, map, length, slice_get, Some, sym, ap, ◌∙◌, arith, subst}
+use Rattle.std.proofs.Common.{◌≡◌, ℕ, zero, suc, ◌+◌, ◌*◌, ◌/◌, ◌<◌, ◌≤◌, ◌-◌, List, map, length, slice_get, Some, sym, ap, ◌∙◌, arith}
+use Rattle.std.proofs.Common.{subst}
 use Rattle.std.proofs.Math.Nat.{mul-div_cancel_left, mul-le-mul_right, zero-div, div-mul-le_self}
 use Rattle.std.proofs.lemmas.Nat.{le-div}
 use native.Mathlib.Decide.{dec_lt}

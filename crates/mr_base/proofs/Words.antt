@@ -1,5 +1,6 @@
 -- Words of a list of bytes, read a byte at a time, their bytes, and folds and orders that go on from a place.
-use Rattle.std.proofs.Common.{zero, suc, ◌≡◌, ℕ, ◌+◌, ◌*◌, ◌%◌, ◌^◌, ◌<◌, ◌≢◌, ◌≤◌, List, [], ◌∷◌, ◌++◌, length, min, take, drop, get_or, bit_xor, refl, sym, ap, ap₂, ◌∙◌, arith, w64}
+use Rattle.std.proofs.Common.{zero, suc, ◌≡◌, ℕ, ◌+◌, ◌*◌, ◌%◌, ◌^◌, ◌<◌, ◌≢◌, ◌≤◌, List, [], ◌∷◌, ◌++◌, length, min, take, drop, get_or}
+use Rattle.std.proofs.Common.{bit_xor, refl, sym, ap, ap₂, ◌∙◌, arith, w64}
 use Rattle.std.specs.Int.{from_be_bytes, to_be_bytes}
 use Rattle.std.specs.declared.cmp.Ordering.{Ordering}
 use Rattle.std.specs.Cmp.Lexicographic.{slice_cmp}
@@ -23,7 +24,8 @@ no_digit : (ks : List ℕ) → high 0 ks ≡ 0
 unfolding high
 no_digit ks = refl
 
-pub word : (ks : List ℕ) (k a b c d e f g h : ℕ) → AreBytes ks → a ≡ get_or ks k 0 → b ≡ get_or ks (k + 1) 0 → c ≡ get_or ks (k + 2) 0 → d ≡ get_or ks (k + 3) 0 → e ≡ get_or ks (k + 4) 0 → f ≡ get_or ks (k + 5) 0
+pub word : (ks : List ℕ) (k a b c d e f g h : ℕ) → AreBytes ks → a ≡ get_or ks k 0 → b ≡ get_or ks (k + 1) 0 → c ≡ get_or ks (k + 2) 0
+    → d ≡ get_or ks (k + 3) 0 → e ≡ get_or ks (k + 4) 0 → f ≡ get_or ks (k + 5) 0
     → g ≡ get_or ks (k + 6) 0 → h ≡ get_or ks (k + 7) 0 → from_be_bytes w64 (a ∷ b ∷ c ∷ d ∷ e ∷ f ∷ g ∷ h ∷ []) ≡ high 8 (drop k ks)
 word ks k a b c d e f g h all pa pb pc pd pe pf pg ph =
     omega (
@@ -47,11 +49,24 @@ at_byte (b ∷ ks) zero h = h.0
 at_byte (b ∷ ks) (suc i) h = at_byte ks i h.1
 
 pub bytes_of_word : (ks : List ℕ) (k : ℕ) → AreBytes ks
-    → to_be_bytes w64 (high 8 (drop k ks)) ≡ get_or ks k 0 ∷ get_or ks (k + 1) 0 ∷ get_or ks (k + 2) 0 ∷ get_or ks (k + 3) 0 ∷ get_or ks (k + 4) 0 ∷ get_or ks (k + 5) 0 ∷ get_or ks (k + 6) 0 ∷ get_or ks (k + 7) 0 ∷ []
+    → to_be_bytes w64 (high 8 (drop k ks))
+    ≡ get_or ks k 0 ∷ get_or ks (k + 1) 0 ∷ get_or ks (k + 2) 0 ∷ get_or ks (k + 3) 0 ∷ get_or ks (k + 4) 0 ∷ get_or ks (k + 5) 0
+    ∷ get_or ks (k + 6) 0 ∷ get_or ks (k + 7) 0 ∷ []
 bytes_of_word ks k h =
-    let bytes : List ℕ = get_or ks k 0 ∷ get_or ks (k + 1) 0 ∷ get_or ks (k + 2) 0 ∷ get_or ks (k + 3) 0 ∷ get_or ks (k + 4) 0 ∷ get_or ks (k + 5) 0 ∷ get_or ks (k + 6) 0 ∷ get_or ks (k + 7) 0 ∷ [] in
-    let all : AreBytes bytes = (at_byte ks k h, (at_byte ks (k + 1) h, (at_byte ks (k + 2) h, (at_byte ks (k + 3) h, (at_byte ks (k + 4) h, (at_byte ks (k + 5) h, (at_byte ks (k + 6) h, (at_byte ks (k + 7) h, tt)))))))) in
-    be_bytes_8 bytes (high 8 (drop k ks)) refl (λ i. at_byte bytes i all) (sym (word ks k _ _ _ _ _ _ _ _ h refl refl refl refl refl refl refl refl))
+    let bytes : List ℕ = get_or ks k 0 ∷ get_or ks (k + 1) 0 ∷ get_or ks (k + 2) 0 ∷ get_or ks (k + 3) 0 ∷ get_or ks (k + 4) 0
+    ∷ get_or ks (k + 5) 0 ∷ get_or ks (k + 6) 0 ∷ get_or ks (k + 7) 0 ∷ [] in
+    let all : AreBytes bytes = (
+      at_byte ks k h,
+      (
+        at_byte ks (k + 1) h,
+        (
+          at_byte ks (k + 2) h,
+          (at_byte ks (k + 3) h, (at_byte ks (k + 4) h, (at_byte ks (k + 5) h, (at_byte ks (k + 6) h, (at_byte ks (k + 7) h, tt))))),
+        ),
+      ),
+    ) in
+    be_bytes_8 bytes (high 8 (drop k ks)) refl (λ i. at_byte bytes i all)
+    (sym (word ks k _ _ _ _ _ _ _ _ h refl refl refl refl refl refl refl refl))
 
 -- n numbers of a list from a place on, and 0 past its end
 padded : ℕ → ℕ → List ℕ → List ℕ
@@ -62,29 +77,38 @@ front : (n k m : ℕ) (ks : List ℕ) → length ks ≡ k + m → m ≤ n → ta
 unfolding padded
 front n k zero ks e h = sym (drop_all k ks (omega arith))
 front zero k (suc m) ks e h = absurd (omega arith)
-front (suc n) k (suc m) ks e h = rw (drop_more ks k 0 (omega arith)) (ap (λ l. get_or ks k 0 ∷ l) (front n (k + 1) m ks (omega arith) (omega arith)))
+front (suc n) k (suc m) ks e h =
+    rw (drop_more ks k 0 (omega arith)) (ap (λ l. get_or ks k 0 ∷ l) (front n (k + 1) m ks (omega arith) (omega arith)))
 
 -- the two words of a short list have its bytes
-pub bytes_of_words : (ks : List ℕ) (first second len : ℕ) → HasWords ks first second → len ≡ length ks → len ≤ 16 → take len (to_be_bytes w64 first ++ to_be_bytes w64 second) ≡ ks
+pub bytes_of_words : (ks : List ℕ) (first second len : ℕ) → HasWords ks first second → len ≡ length ks → len ≤ 16
+    → take len (to_be_bytes w64 first ++ to_be_bytes w64 second) ≡ ks
 unfolding padded
 bytes_of_words ks first second len h e short =
-    ap₂ (λ a b. take len (a ++ b)) (ap (to_be_bytes w64) h.is_first ∙ bytes_of_word ks 0 h.are_bytes) (ap (to_be_bytes w64) h.is_second ∙ bytes_of_word ks 8 h.are_bytes) ∙ front 16 0 len ks (omega arith) short
+    ap₂ (λ a b. take len (a ++ b)) (ap (to_be_bytes w64) h.is_first ∙ bytes_of_word ks 0 h.are_bytes)
+    (ap (to_be_bytes w64) h.is_second ∙ bytes_of_word ks 8 h.are_bytes) ∙ front 16 0 len ks (omega arith) short
 
 -- ---- folds and orders that go on
 
-pub fnv1a_more : (ks : List ℕ) (k state b : ℕ) → k < length ks → b ≡ get_or ks k 0 → fnv1a_from state (drop k ks) ≡ fnv1a_from ((bit_xor state b * 1099511628211) % 2 ^ 64) (drop (k + 1) ks)
+pub fnv1a_more : (ks : List ℕ) (k state b : ℕ) → k < length ks → b ≡ get_or ks k 0
+    → fnv1a_from state (drop k ks) ≡ fnv1a_from ((bit_xor state b * 1099511628211) % 2 ^ 64) (drop (k + 1) ks)
 fnv1a_more ks k state b h e = rw (e, drop_more ks k 0 h) refl
 
-pub order_more : (a b : List ℕ) (k x y : ℕ) → k < length a → k < length b → x ≡ get_or a k 0 → y ≡ get_or b k 0 → x ≡ y → slice_cmp nat_cmp (drop k a) (drop k b) ≡ slice_cmp nat_cmp (drop (k + 1) a) (drop (k + 1) b)
-order_more a b k x y h i p q e = rw (drop_more a k 0 h, drop_more b k 0 i) (tied_first (get_or a k 0) (get_or b k 0) (slice_cmp nat_cmp (drop (k + 1) a) (drop (k + 1) b)) (sym p ∙ e ∙ q))
+pub order_more : (a b : List ℕ) (k x y : ℕ) → k < length a → k < length b → x ≡ get_or a k 0 → y ≡ get_or b k 0 → x ≡ y
+    → slice_cmp nat_cmp (drop k a) (drop k b) ≡ slice_cmp nat_cmp (drop (k + 1) a) (drop (k + 1) b)
+order_more a b k x y h i p q e = rw (drop_more a k 0 h, drop_more b k 0 i)
+    (tied_first (get_or a k 0) (get_or b k 0) (slice_cmp nat_cmp (drop (k + 1) a) (drop (k + 1) b)) (sym p ∙ e ∙ q))
 
 untied_first : (x y : ℕ) (o : Ordering) → x ≢ y → ordering_then (nat_cmp x y) o ≡ nat_cmp x y
 untied_first x y o e = grind (arith, nat_tests)
 
-pub order_here : (a b : List ℕ) (k x y : ℕ) → k < length a → k < length b → x ≡ get_or a k 0 → y ≡ get_or b k 0 → x ≢ y → slice_cmp nat_cmp (drop k a) (drop k b) ≡ nat_cmp x y
-order_here a b k x y h i p q e = rw (drop_more a k 0 h, drop_more b k 0 i, p, q) (untied_first (get_or a k 0) (get_or b k 0) (slice_cmp nat_cmp (drop (k + 1) a) (drop (k + 1) b)) (λ f. e (p ∙ f ∙ sym q)))
+pub order_here : (a b : List ℕ) (k x y : ℕ) → k < length a → k < length b → x ≡ get_or a k 0 → y ≡ get_or b k 0 → x ≢ y
+    → slice_cmp nat_cmp (drop k a) (drop k b) ≡ nat_cmp x y
+order_here a b k x y h i p q e = rw (drop_more a k 0 h, drop_more b k 0 i, p, q)
+    (untied_first (get_or a k 0) (get_or b k 0) (slice_cmp nat_cmp (drop (k + 1) a) (drop (k + 1) b)) (λ f. e (p ∙ f ∙ sym q)))
 
-pub order_end : (a b : List ℕ) (k : ℕ) → k ≡ min (length a) (length b) → slice_cmp nat_cmp (drop k a) (drop k b) ≡ nat_cmp (length a) (length b)
+pub order_end : (a b : List ℕ) (k : ℕ) → k ≡ min (length a) (length b)
+    → slice_cmp nat_cmp (drop k a) (drop k b) ≡ nat_cmp (length a) (length b)
 order_end [] [] zero e = refl
 order_end [] (y ∷ b) zero e = grind (arith, nat_tests)
 order_end (x ∷ a) [] zero e = grind (arith, nat_tests)

@@ -1,5 +1,6 @@
 -- What is seen of the list of a key: its bytes folded or not, and the number that tables look it up by.
-use Rattle.std.specs.Prelude.{◌≡◌, ℕ, ◌*◌, ◌/◌, ◌%◌, ◌^◌, ◌<◌, Bool, true, false, if◌then◌else◌, List, [], ◌∷◌, bit_xor, length, min, take, drop, map, get_or}
+use Rattle.std.specs.Prelude.{◌≡◌, ℕ, ◌*◌, ◌/◌, ◌%◌, ◌^◌, ◌<◌, Bool, true, false, if◌then◌else◌, List, [], ◌∷◌, bit_xor, length, min, take}
+use Rattle.std.specs.Prelude.{drop, map, get_or}
 use Rattle.std.proofs.Common.{zero, suc, refl, arith}
 use Rattle.std.proofs.lemmas.Bool.Decides.{nat_tests}
 use Rattle.std.proofs.lemmas.List.{length-map, drop-map, get_or-map}
@@ -41,7 +42,8 @@ pub drop-folded : (fold : Bool) (n : ℕ) (bytes : List ℕ) → drop n (folded 
 drop-folded true n bytes = drop-map lower n bytes
 drop-folded false n bytes = refl
 
-pub get_or-folded : (fold : Bool) (bytes : List ℕ) (i : ℕ) → i < length bytes → get_or (folded fold bytes) i 0 ≡ folded_byte fold (get_or bytes i 0)
+pub get_or-folded : (fold : Bool) (bytes : List ℕ) (i : ℕ) → i < length bytes
+    → get_or (folded fold bytes) i 0 ≡ folded_byte fold (get_or bytes i 0)
 get_or-folded true bytes i h = get_or-map lower bytes i 0 0 h
 get_or-folded false bytes i h = refl
 

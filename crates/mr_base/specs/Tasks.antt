@@ -1,5 +1,6 @@
 -- How the numbers of tasks are split among queues, and which of them the passes of the queues were given.
-use Rattle.std.specs.Prelude.{◌≡◌, ℕ, ◌+◌, ◌-◌, ◌*◌, ◌/◌, ◌<◌, ◌≤◌, ◌==◌, Bool, true, false, cond, nat_lt, List, [], ◌∷◌, length, map, flat_map, sum_by, slice_index_or}
+use Rattle.std.specs.Prelude.{◌≡◌, ℕ, ◌+◌, ◌-◌, ◌*◌, ◌/◌, ◌<◌, ◌≤◌, ◌==◌, Bool, true, false, cond, nat_lt, List, [], ◌∷◌, length, map}
+use Rattle.std.specs.Prelude.{flat_map, sum_by, slice_index_or}
 use Rattle.std.specs.List.{range_with_len}
 use Rattle.std.specs.List.Sorted.{IsPermutation}
 use Rattle.mr_defs.specs.Tasks.{Stretch}
@@ -34,11 +35,13 @@ AreAllGiven n given passes = IsPermutation (range_with_len 0 n) (flat_map given 
 
 -- at each place a pass of the queues, with the number of its place
 abbrev pub AreAll : {P : Type 0} → ℕ → (P → Type 0) → (P → ℕ) → List P → Type 0
-AreAll {P} count is_of number ps = (length ps ≡ count) × ((i : ℕ) (d : P) → i < count → is_of (slice_index_or ps i d) × (number (slice_index_or ps i d) ≡ i))
+AreAll {P} count is_of number ps =
+    (length ps ≡ count) × ((i : ℕ) (d : P) → i < count → is_of (slice_index_or ps i d) × (number (slice_index_or ps i d) ≡ i))
 
 -- none of the passes was given a task or has answered None
 abbrev pub AreUnused : {P : Type 0} → (P → List ℕ) → (P → Bool) → List P → Type 0
-AreUnused {P} given ended ps = (i : ℕ) (d : P) → i < length ps → (given (slice_index_or ps i d) ≡ []) × (ended (slice_index_or ps i d) ≡ false)
+AreUnused {P} given ended ps =
+    (i : ℕ) (d : P) → i < length ps → (given (slice_index_or ps i d) ≡ []) × (ended (slice_index_or ps i d) ≡ false)
 
 -- each of the passes has answered None
 abbrev pub HaveEnded : {P : Type 0} → (P → Bool) → List P → Type 0

@@ -1,6 +1,9 @@
-ghost use Rattle.std.specs.Prelude.{◌≡◌, [], ◌∷◌, length, slice_get, Some, ◌<◌};
+ghost use Rattle.std.specs.Prelude.{◌≡◌, [], ◌∷◌, ◌++◌, flat_map, length, slice_get, Some, ◌<◌, OnOk};
+ghost use Rattle.mr_items.specs.Texts.{spaced};
 
 use crate::few::Few;
+use crate::memory::Memory;
+use crate::text::Text;
 use std::marker::Model;
 
 /// The numbers that stand with a key, one or more, seen as the list of them. None of its calls takes memory.
@@ -9,13 +12,15 @@ pub struct Answer {
     numbers: Numbers,
 }
 
-// Numbers of 64 bits take no more than they need, since there are as many answers as keys. Two of any size need 32 bytes, and memory may not be taken.
+// Numbers of 64 bits take no more than they need, since there are as many answers as keys. Two of any size need 32 bytes, and memory may
+// not be taken. A list of 64 bits each is kept as it is given.
 #[derive(Drop)]
 enum Numbers {
     One(i64),
     Two(i64, i64),
     WideOne(Wide),
     WideTwo(Wide, Wide),
+    Listed(Vec<i64>),
     Many(Few<i128>),
 }
 
@@ -31,7 +36,8 @@ impl Model for Answer {
     ghost view = { λ a. numbers_of a.numbers };
 }
 
-// A number of 128 bits in two words, which lie as closely as numbers of 64 bits do: of n its words, and of -1 - n these with the high one's first bit set.
+// A number of 128 bits in two words, which lie as closely as numbers of 64 bits do: of n its words, and of -1 - n these with the high one's
+// first bit set.
 #[derive(Drop)]
 struct Wide {
     high: u64,
@@ -112,6 +118,15 @@ impl Answer {
         }
     }
 
+    /// The answer that has these numbers, which are kept without a copy.
+    pub fn listed(numbers: Vec<i64>) -> Answer
+        ensures { result ≡ numbers.items }
+    {
+        Answer {
+            numbers: Numbers::Listed(numbers),
+        }
+    }
+
     /// How many numbers it has.
     pub fn len(&self) -> usize
         ensures { result ≡ length self.now }
@@ -119,6 +134,7 @@ impl Answer {
         match &self.numbers {
             Numbers::One(_) | Numbers::WideOne(_) => 1,
             Numbers::Two(_, _) | Numbers::WideTwo(_, _) => 2,
+            Numbers::Listed(list) => list.len(),
             Numbers::Many(few) => few.len(),
         }
     }
@@ -133,7 +149,32 @@ impl Answer {
             Numbers::Two(first, second) => (if i == 0 { *first } else { *second }) as i128,
             Numbers::WideOne(n) => n.number(),
             Numbers::WideTwo(first, second) => if i == 0 { first } else { second }.number(),
+            Numbers::Listed(list) => list[i] as i128,
             Numbers::Many(few) => *few.get(i),
         }
     }
+
+    /// Appends a space and the decimal spelling of each number.
+    pub fn print(&self, text: &mut Text) -> Result<(), Memory>
+        ensures { OnOk result (text.new ≡ text.old ++ flat_map spaced self.now) }
+    {
+        if let Numbers::Listed(list) = &self.numbers {
+            return print_list(list, text);
+        }
+        for i in 0..self.len() {
+            text.push(b" ")?;
+            text.push_number(self.number(i))?;
+        }
+        Ok(())
+    }
+}
+
+// Appends a space and the decimal spelling of each of these numbers.
+fn print_list(numbers: &[i64], text: &mut Text) -> Result<(), Memory>
+    ensures { OnOk result (text.new ≡ text.old ++ flat_map spaced numbers.now) }
+{
+    for number in numbers {
+        text.push_spaced(*number)?;
+    }
+    Ok(())
 }

@@ -19,11 +19,11 @@ use std::alloc::Global;
 use std::cmp::Ordering;
 use std::marker::Model;
 
-/// A key of bytes that are borrowed, in byte order, seen as the list of them, with A to Z turned into a to z where its mark is set. Its hash is
-/// `fnv1a` of that list, and it prints that list. A copy takes no memory.
+/// A key of bytes that are borrowed, in byte order, seen as the list of them, with A to Z turned into a to z where its mark is set. Its
+/// hash is `fnv1a` of that list, and it prints that list. A copy takes no memory.
 ///
-/// It keeps its first 16 bytes as two words, and its code and its length beside them, so that keys of up to 16 bytes are compared and looked up without
-/// a look at the text.
+/// It keeps its first 16 bytes as two words, and its code and its length beside them, so that keys of up to 16 bytes are compared and
+/// looked up without a look at the text.
 // The slice comes last: a table reads what stands before it.
 #[derive(Drop)]
 pub struct SliceKey<'a> {
@@ -62,8 +62,8 @@ impl<'a> SliceKey<'a> {
         )
     }
 
-    /// The key of the bytes of a text between two places, with A to Z turned into a to z where that is asked for. It reads the text past its
-    /// bytes, where there is more of it.
+    /// The key of the bytes of a text between two places, with A to Z turned into a to z where that is asked for. It reads the text past
+    /// its bytes, where there is more of it.
     pub fn within(text: &'a [u8], from: usize, to: usize, fold: bool) -> SliceKey<'a>
         requires order { from ≤ to }
         requires inside { to ≤ length text.now }

@@ -1,4 +1,5 @@
 ghost use Rattle.std.specs.Prelude.{◌≢◌, negsuc};
+ghost use Rattle.mr_defs.specs.Folded.{limit};
 
 /// Values that are emitted, of which a type may leave some out.
 pub trait Emitted: Drop {
@@ -8,5 +9,5 @@ pub trait Emitted: Drop {
 
 /// Every number but -9223372036854775808, so that each has a magnitude of at most 9223372036854775807.
 impl Emitted for i64 {
-    ghost allowed = { λ v. v ≢ negsuc 9223372036854775807 };
+    ghost allowed = { λ v. v ≢ negsuc limit };
 }

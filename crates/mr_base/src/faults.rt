@@ -10,8 +10,8 @@ use crate::memory::Memory;
 use mr_defs::Fault;
 use std::alloc::Global;
 
-/// The least fault of each kind that was noted: the offset of an item without form, a key outside the container, a key that was emitted twice, and a
-/// key whose value or fold is over the limit.
+/// The least fault of each kind that was noted: the offset of an item without form, a key outside the container, a key that was emitted
+/// twice, and a key whose value or fold is over the limit.
 #[derive(Debug, Drop)]
 pub struct Faults<K> {
     pub malformed: Option<u64>,

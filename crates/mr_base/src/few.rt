@@ -58,7 +58,8 @@ impl<T: Drop> Few<T> {
 
     /// Takes the last item. None exactly where the list is empty.
     pub fn pop(&mut self) -> Option<T>
-        ensures { MatchOption result ((self.old.items ≡ []) × (self.new ≡ self.old)) (λ x. (self.old.items ≡ self.new.items ++ x ∷ []) × (self.new.spare ≡ self.old.spare + 1)) }
+        ensures { MatchOption result ((self.old.items ≡ []) × (self.new ≡ self.old))
+            (λ x. (self.old.items ≡ self.new.items ++ x ∷ []) × (self.new.spare ≡ self.old.spare + 1)) }
     {
         self.kept.pop()
     }

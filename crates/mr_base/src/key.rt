@@ -7,6 +7,7 @@ ghost use Rattle.std.specs.Cmp.Lexicographic.{slice_cmp};
 ghost use Rattle.std.specs.Int.{to_le_bytes, w64};
 ghost use Rattle.std.specs.Ordering.{nat_cmp, on, as_partial_cmp, eq_by_cmp};
 ghost use Rattle.std.specs.declared.cmp.Ordering.TheVariants.{Less};
+ghost use Rattle.mr_defs.specs.Folded.{limit};
 ghost use Rattle.mr_items.specs.FaultLines.{shown_text};
 ghost use Rattle.mr_base.specs.Hash.{fnv1a_of};
 ghost use Rattle.mr_base.specs.Keys.{list_code, scattered};
@@ -218,7 +219,7 @@ pub fn fnv1a(bytes: &[u8]) -> u64
 }
 
 impl Key for NumKey {
-    ghost allowed = { λ k. k ≤ 9223372036854775807 };
+    ghost allowed = { λ k. k ≤ limit };
 
     ghost copies_free = { true };
 

@@ -87,7 +87,8 @@ pub fn mixed(first: u64, second: u64, rest: u64) -> u64
     scattered(first ^ second.wrapping_mul(11400714819323198485) ^ rest)
 }
 
-/// What a code takes of a folded list beside its first 16 bytes: its length, or the FNV-1a hash of what comes after them from the length on.
+/// What a code takes of a folded list beside its first 16 bytes: its length, or the FNV-1a hash of what comes after them from the length
+/// on.
 #[inline(always)]
 pub fn rest_of(bytes: &[u8], fold: bool) -> u64
     ensures { result ≡ fnv1a_from (length bytes.now) (drop 16 (folded fold bytes.now)) }

@@ -7,8 +7,8 @@ use crate::memory::Memory;
 use crate::ranges::Ranges;
 use std::alloc::Global;
 
-/// Queues of tasks, one for each worker, from which workers on several threads take. What a worker does goes by its pass: the pass has a number, the
-/// tasks that it was given, in no stated order, and whether it has answered None.
+/// Queues of tasks, one for each worker, from which workers on several threads take. What a worker does goes by its pass: the pass has a
+/// number, the tasks that it was given, in no stated order, and whether it has answered None.
 pub trait TaskQueues: Sized {
     type Pass: Send + Drop;
 
@@ -33,12 +33,13 @@ pub trait TaskQueues: Sized {
         ensures passes { IfOk result (λ r. AreAll (count r.0) (is_of r.0) number r.1.items) }
         ensures unused { IfOk result (λ r. AreUnused given ended r.1.items) };
 
-    /// A task that no pass was given before. None where this pass saw its own queue with no task left; each kind of queue says when that is. Takes no
-    /// memory and waits for nobody.
+    /// A task that no pass was given before. None where this pass saw its own queue with no task left; each kind of queue says when that
+    /// is. Takes no memory and waits for nobody.
     fn take(&self, pass: &mut Self::Pass) -> Option<u32>
         requires { is_of self.now pass.old }
         ensures same { is_of self.now pass.new × (number pass.new ≡ number pass.old) }
-        ensures some { IfSome result (λ t. (t < total self.now) × IsPermutation (given pass.old ++ t ∷ []) (given pass.new) × (ended pass.new ≡ ended pass.old)) }
+        ensures some { IfSome result
+            (λ t. (t < total self.now) × IsPermutation (given pass.old ++ t ∷ []) (given pass.new) × (ended pass.new ≡ ended pass.old)) }
         ensures none { IfNone result ((given pass.new ≡ given pass.old) × (ended pass.new ≡ true)) }
         ensures later { ended pass.old ≡ true → IsNone result };
 

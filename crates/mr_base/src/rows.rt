@@ -1,7 +1,10 @@
 ghost use Rattle.std.specs.Prelude.{◌≡◌, ◌<◌, [], ◌∷◌, ◌++◌, length, map, slice_get, Some, OnOk, OnErr};
+ghost use Rattle.mr_items.specs.Texts.{row_text};
 
 use crate::answer::Answer;
+use crate::key::Key;
 use crate::memory::Memory;
+use crate::text::Text;
 use std::alloc::Global;
 use std::marker::Model;
 
@@ -81,4 +84,13 @@ impl<K: Drop> Rows<K> {
     {
         &self.rows[i].1
     }
+}
+
+/// Appends the line of a row: the key as it is printed, a space and a number for each number of the answer, and a byte 10.
+pub fn push_row<K: Key>(text: &mut Text, key: &K, answer: &Answer) -> Result<(), Memory>
+    ensures { OnOk result (text.new ≡ text.old ++ row_text K.printed (key.now, answer.now)) }
+{
+    key.print(text)?;
+    answer.print(text)?;
+    text.push(b"\n")
 }

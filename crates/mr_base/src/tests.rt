@@ -194,3 +194,23 @@ fn codes(rt: HostRuntime) {
         assert_eq!(rt; status.code(), code);
     }
 }
+
+// What an answer prints.
+fn printed(alloc: Global, answer: &Answer) -> Result<Text, Memory> {
+    let mut text = Text::new(alloc);
+    answer.print(&mut text)?;
+    Ok(text)
+}
+
+#[test]
+fn prints_answers(rt: HostRuntime) -> Result<(), Fail> {
+    let alloc = rt.alloc();
+    for n in [-12i64, 0, 999999, 1000000, 9080706, 99999999, 100000000] {
+        let listed = Answer::listed(Vec::from_slice(alloc, &[n])?);
+        let one = Answer::one(n as i128);
+        assert!(rt; printed(alloc, &listed)?.as_bytes() == printed(alloc, &one)?.as_bytes());
+    }
+    let two = Answer::two(7, -1);
+    assert!(rt; printed(alloc, &two)?.as_bytes() == b" 7 -1".as_slice());
+    Ok(())
+}

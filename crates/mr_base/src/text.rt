@@ -1,8 +1,9 @@
-ghost use Rattle.std.specs.Prelude.{◌≡◌, ◌≤◌, ◌++◌, [], length, take, drop, map, IfOk, OnOk, OnErr};
+ghost use Rattle.std.specs.Prelude.{◌≡◌, ◌+◌, ◌/◌, ◌%◌, ◌<◌, ◌≤◌, ◌++◌, ◌∷◌, [], length, take, drop, map, IfOk, OnOk, OnErr};
 ghost use Rattle.std.specs.Fmt.{decimal, signed_decimal};
 ghost use Rattle.std.specs.Int.{to_be_bytes, w64};
 ghost use Rattle.mr_base.specs.Keys.{folded};
 ghost use Rattle.mr_items.specs.Words.{lower};
+ghost use Rattle.mr_items.specs.Texts.{spaced};
 ghost use Rattle.mr_items.specs.FaultLines.{shown_byte, shown_text};
 
 use crate::lead::folded_copy;
@@ -39,6 +40,22 @@ fn lower_from(bytes: &mut [u8], from: usize)
 {
     let (_, tail) = bytes.split_at_mut(from);
     tail.make_ascii_lowercase();
+}
+
+// The digits of a number below 100.
+#[inline(always)]
+fn tens(n: u64) -> u8
+    requires { n < 100 }
+    ensures { result ≡ 48 + n / 10 }
+{
+    b'0' + (n / 10) as u8
+}
+
+#[inline(always)]
+fn ones(n: u64) -> u8
+    ensures { result ≡ 48 + n % 10 }
+{
+    b'0' + (n % 10) as u8
 }
 
 /// Bytes that are to be written, seen as the list of them.
@@ -85,7 +102,8 @@ impl Text {
         Ok(())
     }
 
-    /// Appends the first `count` of the sixteen bytes of two words, the highest of the first one first. After want of memory the text is as before.
+    /// Appends the first `count` of the sixteen bytes of two words, the highest of the first one first. After want of memory the text is as
+    /// before.
     // Sixteen bytes are appended whatever the count is, and the others cut off again: a copy of a fixed length is a store.
     #[inline]
     pub fn push_words(&mut self, first: u64, second: u64, count: usize) -> Result<(), Memory>
@@ -149,8 +167,38 @@ impl Text {
         self.push(buffer.format(n).as_bytes())
     }
 
-    /// Appends what a line shows of a key: its first 64 bytes, with `?` in place of each outside 33 to 126. After want of memory the text is
-    /// as before.
+    // Appends a space and the decimal spelling of a number. After want of memory the text is as before or ends in the space.
+    #[inline]
+    pub(crate) fn push_spaced(&mut self, n: i64) -> Result<(), Memory>
+        ensures { OnOk result (self.new ≡ self.old ++ spaced n) }
+    {
+        if 1000000 <= n && n < 100000000 {
+            return self.push_long(n as u64);
+        }
+        self.bytes.push(b' ')?;
+        self.push_number(n as i128)
+    }
+
+    // Appends a space and the decimal spelling of a number of seven or eight digits, all bytes at once.
+    #[inline]
+    fn push_long(&mut self, n: u64) -> Result<(), Memory>
+        requires low { 1000000 ≤ n }
+        requires high { n < 100000000 }
+        ensures { OnOk result (self.new ≡ self.old ++ 32 ∷ decimal n) }
+    {
+        let (first, second) = (n / 1000000, n / 10000 % 100);
+        let (third, fourth) = (n % 10000 / 100, n % 100);
+        let (a, b) = (tens(second), ones(second));
+        let (c, d) = (tens(third), ones(third));
+        let (e, f) = (tens(fourth), ones(fourth));
+        if first < 10 {
+            return self.push(&[b' ', ones(first), a, b, c, d, e, f]);
+        }
+        self.push(&[b' ', tens(first), ones(first), a, b, c, d, e, f])
+    }
+
+    /// Appends what a line shows of a key: its first 64 bytes, with `?` in place of each outside 33 to 126. After want of memory the text
+    /// is as before.
     pub fn push_shown(&mut self, key: &[u8]) -> Result<(), Memory>
         ensures ok { OnOk result (self.new ≡ self.old ++ shown_text key.now) }
         ensures err { OnErr result (self.new ≡ self.old) }

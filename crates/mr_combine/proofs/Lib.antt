@@ -1,2 +1,3 @@
+pub mod Runs
 pub mod Sorted
 pub mod Zipped

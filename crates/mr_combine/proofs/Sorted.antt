@@ -31,7 +31,8 @@ module _ {A : Type 0} (R : A → A → Ordering) (o : IsTotalOrder R) (one : IsA
   sorted_rises k (x ∷ xs) s = (
     ap is_gt (o.antisymm k x) ∙ turned (R x k) ∙ s 0 k (omega arith) (omega arith),
     sorted_rises x xs
-        (λ i d l h. subst (λ j. is_lt (R (get_or (k ∷ x ∷ xs) j d) (get_or (x ∷ xs) i d)) ≡ false) (one_on i) (s (suc i) d (omega arith) (omega (arith, h)))),
+        (λ i d l h. subst (λ j. is_lt (R (get_or (k ∷ x ∷ xs) j d) (get_or (x ∷ xs) i d)) ≡ false) (one_on i)
+        (s (suc i) d (omega arith) (omega (arith, h)))),
   )
     where
       one_on : (i : ℕ) → suc i + 1 ≡ suc (i + 1)
@@ -72,16 +73,19 @@ module _ {A : Type 0} (R : A → A → Ordering) (o : IsTotalOrder R) (one : IsA
   deduped k [] h = refl
   deduped k (x ∷ xs) h = by (R x k) refl (deduped k xs (skip k x xs h.0 h.1)) (deduped x xs h.1)
     where
-      by : (r : Ordering) → R x k ≡ r → ascending R (k ∷ xs) ≡ dedup_from (eq_by_cmp R) k xs → ascending R (x ∷ xs) ≡ dedup_from (eq_by_cmp R) x xs
+      by : (r : Ordering) → R x k ≡ r → ascending R (k ∷ xs) ≡ dedup_from (eq_by_cmp R) k xs
+          → ascending R (x ∷ xs) ≡ dedup_from (eq_by_cmp R) x xs
           → fold (insert_key R) (match_ordering r (x ∷ k ∷ []) (k ∷ []) (k ∷ x ∷ [])) xs
           ≡ cond (is_eq r) (dedup_from (eq_by_cmp R) k xs) (k ∷ dedup_from (eq_by_cmp R) x xs)
       by Less e same other = absurd (true≢false (sym (ap is_gt (o.antisymm k x ∙ ap ordering_reverse e)) ∙ h.0))
       by Equal e same other = same
-      by Greater e same other = insert_above k xs (x ∷ []) (above k x xs (o.antisymm k x ∙ ap ordering_reverse e) h.1).1 ∙ ap (λ l. k ∷ l) other
+      by Greater e same other =
+          insert_above k xs (x ∷ []) (above k x xs (o.antisymm k x ∙ ap ordering_reverse e) h.1).1 ∙ ap (λ l. k ∷ l) other
 
 pub sorted_in_order : (xs : List ℤ) → IsSorted int_cmp xs → in_order xs ≡ xs
 sorted_in_order [] s = refl
-sorted_in_order (x ∷ xs) s = in_order_stays int_cmp int_cmp_total int_cmp-IsAntisymmetric x xs (sorted_rises int_cmp int_cmp_total int_cmp-IsAntisymmetric x xs s)
+sorted_in_order (x ∷ xs) s =
+    in_order_stays int_cmp int_cmp_total int_cmp-IsAntisymmetric x xs (sorted_rises int_cmp int_cmp_total int_cmp-IsAntisymmetric x xs s)
 
 -- what a sort leaves
 pub sorted_values : (xs ys : List ℤ) → IsPermutation xs ys → IsSorted int_cmp ys → ys ≡ in_order xs
@@ -90,4 +94,5 @@ sorted_values xs ys p s = sym (sorted_in_order ys s) ∙ in_order-IsPermutation 
 -- what a sort leaves, without repetition
 pub sorted_deduped : (ys : List ℤ) → IsSorted int_cmp ys → dedup int_eq ys ≡ ascending int_cmp ys
 sorted_deduped [] s = refl
-sorted_deduped (y ∷ ys) s = sym (deduped int_cmp int_cmp_total int_cmp-IsAntisymmetric y ys (sorted_rises int_cmp int_cmp_total int_cmp-IsAntisymmetric y ys s))
+sorted_deduped (y ∷ ys) s =
+    sym (deduped int_cmp int_cmp_total int_cmp-IsAntisymmetric y ys (sorted_rises int_cmp int_cmp_total int_cmp-IsAntisymmetric y ys s))

@@ -50,7 +50,8 @@ module _ {A : Type 0} (fits : A → Bool) (op : A → A → A) (laws : IsCommuta
       by true e = refl
       by false e = past a c e (fits (op a c)) refl
 
-  within_assoc : (a b c : Option A) → joined_within fits op (joined_within fits op a b) c ≡ joined_within fits op a (joined_within fits op b c)
+  within_assoc : (a b c : Option A)
+      → joined_within fits op (joined_within fits op a b) c ≡ joined_within fits op a (joined_within fits op b c)
   within_assoc None b c = refl
   within_assoc (Some a) None c = refl
   within_assoc (Some a) (Some b) None = none_right fits op (within fits (op a b))
@@ -81,5 +82,6 @@ module _ {A : Type 0} (fits : A → Bool) (op : A → A → A) (laws : IsCommuta
 
     pub within_is_fold : IsFoldOf (λ v. within fits (g v)) (joined_within fits op) is_none answer folded_within
     within_is_fold =
-        total_is_fold op g (joined_within fits op) (λ v. within fits (g v)) (within fits) (λ v. refl) within_both total sums is_none answer folded_within
+        total_is_fold op g (joined_within fits op) (λ v. within fits (g v)) (within fits)
+        (λ v. refl) within_both total sums is_none answer folded_within
         (λ vs. within_outcome (total vs) (fits (total vs)))

@@ -38,5 +38,6 @@ module _
           → ((vs : List V) → folded vs ≡ outcome over answer (read (total vs))) → IsFoldOf unit merged over answer folded
       total_is_fold over answer folded is [] = tt
       total_is_fold over answer folded is (v ∷ vs) =
-          let e : cell_of unit merged (v ∷ vs) ≡ Some (read (total (v ∷ vs))) = cell_read (v ∷ vs) ∙ ap (option_map read) (cell_total v vs) in
+          let e : cell_of unit merged (v ∷ vs) ≡ Some (read (total (v ∷ vs))) =
+          cell_read (v ∷ vs) ∙ ap (option_map read) (cell_total v vs) in
           subst (λ c. IfSome c (λ c. folded (v ∷ vs) ≡ outcome over answer c)) (sym e) (is (v ∷ vs))

@@ -30,14 +30,17 @@ module _ {S : Type 0} (scalar : ℤ → S) (number : S → ℤ) (op : S → S �
       ap (joined op (Some (scalar v))) (scalars_joined vs ∙ reduce-joined_by laws (map scalar vs))
       ∙ sym (reduce-joined_by laws (scalar v ∷ map scalar vs))
 
-  answered : (c : Option S) (f : Option Answer) → f ≡ option_map (λ s. number s ∷ []) c → IfSome c (λ s. f ≡ outcome never (λ s. number s ∷ []) s)
+  answered : (c : Option S) (f : Option Answer) → f ≡ option_map (λ s. number s ∷ []) c
+      → IfSome c (λ s. f ≡ outcome never (λ s. number s ∷ []) s)
   answered None f e = tt
   answered (Some s) f e = e
 
-  pub joining_is_fold : (folded : List ℤ → Option Answer) → Joins scalar number op folded → IsFoldOf scalar op never (λ s. number s ∷ []) folded
+  pub joining_is_fold : (folded : List ℤ → Option Answer) → Joins scalar number op folded
+      → IsFoldOf scalar op never (λ s. number s ∷ []) folded
   joining_is_fold folded joins [] = tt
   joining_is_fold folded joins (v ∷ vs) =
-      answered (cell_of scalar op (v ∷ vs)) (folded (v ∷ vs)) (joins v vs ∙ ap (option_map (λ s. number s ∷ [])) (sym (scalars_joined (v ∷ vs))))
+      answered (cell_of scalar op (v ∷ vs)) (folded (v ∷ vs))
+      (joins v vs ∙ ap (option_map (λ s. number s ∷ [])) (sym (scalars_joined (v ∷ vs))))
 
 -- of numbers that are kept as they are
 pub numbers_join : (op : ℤ → ℤ → ℤ) → Joins (λ v. v) (λ s. s) op (λ vs. option_map (λ v. v ∷ []) (reduce op vs))

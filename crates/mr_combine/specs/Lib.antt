@@ -6,5 +6,6 @@ pub mod Joining
 pub mod Ordered
 pub mod Paired
 pub mod Points
+pub mod Runs
 pub mod Sums
 pub mod Zipped

@@ -6,7 +6,9 @@ use Rattle.std.specs.Cmp.{IsTotalOrder, int_cmp_total}
 use Rattle.std.specs.FinMap.{IsAntisymmetric, int_cmp-IsAntisymmetric}
 use Rattle.std.specs.List.Sorted.{IsPermutation}
 use Rattle.std.proofs.Common.{refl, sym, ap, subst, ◌∙◌, append_assoc}
-use Rattle.std.proofs.lemmas.List.Sorted.{IsPermutation-refl, IsPermutation-trans, IsPermutation-cons, IsPermutation-insert, IsPermutation-append_left, IsPermutation-append_right, IsPermutation-append_comm, length_permutation}
+use Rattle.std.proofs.lemmas.List.Sorted.{IsPermutation-refl, IsPermutation-trans, IsPermutation-cons, IsPermutation-insert}
+use Rattle.std.proofs.lemmas.List.Sorted.{IsPermutation-append_left, IsPermutation-append_right, IsPermutation-append_comm}
+use Rattle.std.proofs.lemmas.List.Sorted.{length_permutation}
 use Rattle.mr_defs.specs.Commutative.{IsCommutative}
 use Rattle.mr_defs.specs.Emission.{Answer}
 use Rattle.mr_defs.specs.Folded.{in_order, put_in_order, list_folded, distinct_folded, median_folded}
@@ -40,7 +42,8 @@ module _ {A : Type 0} (R : A → A → Ordering) (o : IsTotalOrder R) (one : IsA
   in_order_permutes (x ∷ xs) =
       let rest : List A = fold (put_in_order R) [] xs in
       subst (IsPermutation (x ∷ xs)) (sym (in_order_next x xs))
-      (IsPermutation-trans (x ∷ xs) (x ∷ rest) (put_in_order R rest x) (IsPermutation-cons x xs rest (in_order_permutes xs)) (put_permutes rest x))
+      (IsPermutation-trans (x ∷ xs) (x ∷ rest) (put_in_order R rest x) (IsPermutation-cons x xs rest (in_order_permutes xs))
+      (put_permutes rest x))
 
 -- the values of a cell in order: of one value, and of two cells
 abbrev pub buffer_unit : ℤ → List ℤ
@@ -74,7 +77,8 @@ values_total = record { one = λ v. refl; more = λ v vs. refl }
 buffer_is_fold : (answer : List ℤ → Answer) (folded : List ℤ → Option Answer)
     → ((vs : List ℤ) → folded vs ≡ Some (answer (in_order vs))) → IsFoldOf buffer_unit buffer_merged never answer folded
 buffer_is_fold answer folded is =
-    total_is_fold ◌++◌ buffer_unit buffer_merged buffer_unit in_order (λ v. refl) both_in_order (λ vs. vs) values_total never answer folded is
+    total_is_fold ◌++◌ buffer_unit buffer_merged buffer_unit in_order (λ v. refl) both_in_order
+    (λ vs. vs) values_total never answer folded is
 
 abbrev pub list_answer : List ℤ → Answer
 list_answer vs = vs

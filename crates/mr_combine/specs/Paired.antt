@@ -1,5 +1,6 @@
 -- Two combiners side by side.
-use Rattle.std.specs.Prelude.{◌≡◌, Bool, true, false, ◌||◌, ℤ, List, [], ◌∷◌, ◌++◌, if◌then◌else◌, Option, Some, None, option_map, option_and_then, IfSome}
+use Rattle.std.specs.Prelude.{◌≡◌, Bool, true, false, ◌||◌, ℤ, List, [], ◌∷◌, ◌++◌, if◌then◌else◌, Option, Some, None, option_map}
+use Rattle.std.specs.Prelude.{option_and_then, IfSome}
 use Rattle.std.proofs.Common.{refl, ap, subst, ◌∙◌}
 use Rattle.mr_defs.specs.Commutative.{IsCommutative}
 use Rattle.mr_defs.specs.Emission.{Answer}

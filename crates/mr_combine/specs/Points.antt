@@ -1,5 +1,6 @@
 -- The number of points with the sum of each coordinate, where a shorter point ends in zeros.
-use Rattle.std.specs.Prelude.{◌≡◌, ℕ, ◌+◌, ◌<◌, ◌≤◌, max, Bool, true, false, not, nat_lt, ◌||◌, ◌&&◌, if◌then◌else◌, List, [], ◌∷◌, fold, length, map, get_or, ℤ, pos, nat_abs, nat_le, Option, Some, None}
+use Rattle.std.specs.Prelude.{◌≡◌, ℕ, ◌+◌, ◌<◌, ◌≤◌, max, Bool, true, false, not, nat_lt, ◌||◌, ◌&&◌, if◌then◌else◌, List, [], ◌∷◌, fold}
+use Rattle.std.specs.Prelude.{length, map, get_or, ℤ, pos, nat_abs, nat_le, Option, Some, None}
 use Rattle.std.specs.Option.{is_none}
 use Rattle.std.specs.List.{list_any, list_all, range_with_len}
 use Rattle.std.proofs.Common.{refl, sym, ap, ◌∙◌, arith}
@@ -16,7 +17,8 @@ use Rattle.mr_combine.specs.Counts.{count_fits, count_merged, count_number, coun
 use Rattle.mr_combine.specs.Fold.{outcome, IsFoldOf}
 use Rattle.mr_combine.specs.Zipped.{zip_longest, zip_none, zip_commutative, zip_stays, zip_at, length-zip, zip_map}
 use Rattle.mr_combine.specs.Paired.{side_by_side, side_commutative, either_over, side_stays}
-use Rattle.mr_combine.specs.Sums.{Summed, summed, sum_fits, sum_unit, sum_merged, sum_number, sum_commutative, sum_stays_over, sums_join, sum_total}
+use Rattle.mr_combine.specs.Sums.{Summed, summed, sum_fits, sum_unit, sum_merged, sum_number, sum_commutative, sum_stays_over, sums_join}
+use Rattle.mr_combine.specs.Sums.{sum_total}
 use Rattle.std.proofs.Math.IntN.{+ℤ_idl, +ℤ_idr}
 use Rattle.std.proofs.Math.ListN.{get_or-map}
 use borrow.Author.Tests.{ltb-true, ltb-false}
@@ -85,7 +87,8 @@ past_all : (points : List (List ℤ)) (j : ℕ) → dimension points ≤ j → s
 past_all [] j h = refl
 past_all (p ∷ ps) j h =
     sum_total.more (get_or p j (pos 0)) (coordinates ps j)
-    ∙ (λ i. summed (one_summed (get_or_past p j (pos 0) (omega (arith, h, dimension_next p ps)) i)) (past_all ps j (omega (arith, h, dimension_next p ps)) i))
+    ∙ (λ i. summed (one_summed (get_or_past p j (pos 0) (omega (arith, h, dimension_next p ps)) i))
+    (past_all ps j (omega (arith, h, dimension_next p ps)) i))
 
 sum_at : (points : List (List ℤ)) (j : ℕ) → get_or (sums_of points) j nothing ≡ sums_at points j
 sum_at points j = by (nat_lt j (dimension points)) refl
@@ -145,10 +148,11 @@ module _ (f : ℕ → Summed) where
 
   some_over : (js : List ℕ) → list_any is_none (read_all js) ≡ not (all_fit js)
   some_over [] = refl
-  some_over (j ∷ js) = elim (nat_le (f j).1 limit) as (λ b. (is_none (if b then Some (f j) else None) || list_any is_none (read_all js)) ≡ not (b && all_fit js)) [
-    | true ↦ some_over js
-    | false ↦ refl
-  ]
+  some_over (j ∷ js) = elim (nat_le (f j).1 limit) as (λ b. (is_none (if b then Some (f j) else None) || list_any is_none (read_all js))
+      ≡ not (b && all_fit js)) [
+        | true ↦ some_over js
+        | false ↦ refl
+      ]
 
   none_over : (js : List ℕ) → all_fit js ≡ true → map sum_number (read_all js) ≡ map (λ j. (f j).0) js
   none_over [] h = refl
@@ -167,7 +171,8 @@ module _ (f : ℕ → Summed) where
   answered n js true false e = refl
   answered n js false b e = refl
 
-vecsum_outcome : (points : List (List ℤ)) → vecsum_folded points ≡ outcome vecsum_over vecsum_answer (points_within (length points, sums_of points))
+vecsum_outcome : (points : List (List ℤ))
+    → vecsum_folded points ≡ outcome vecsum_over vecsum_answer (points_within (length points, sums_of points))
 vecsum_outcome points =
     let places : List ℕ = range_with_len 0 (dimension points) in
     let cell : PointsSeen = points_within (length points, sums_of points) in

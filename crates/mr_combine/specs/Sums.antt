@@ -32,7 +32,7 @@ sum_merged most a b = joined_within (sum_fits most) summed a b
 abbrev pub sum_number : Option Summed → ℤ
 sum_number c = option_map_or (λ a. a.0) c (pos 0)
 
-summed_commutative : IsCommutative summed
+pub summed_commutative : IsCommutative summed
 summed_commutative = record {
   comm = λ a b. λ i. (+ℤ_comm a.0 b.0 i, add_comm a.1 b.1 i);
   assoc = λ a b c. λ i. (+ℤ_assoc a.0 b.0 c.0 i, add_assoc a.1 b.1 c.1 i);
@@ -53,7 +53,8 @@ sum_stays_over most a b h = over_stays (sum_fits most) summed a b h
 pub sum_commutative : (most : ℕ) → IsCommutative (sum_merged most)
 sum_commutative most = within_commutative (sum_fits most) summed summed_commutative (sum_bound most)
 
-pub sums_join : (most : ℕ) (a b : Summed) → sum_merged most (within (sum_fits most) a) (within (sum_fits most) b) ≡ within (sum_fits most) (summed a b)
+pub sums_join : (most : ℕ) (a b : Summed)
+    → sum_merged most (within (sum_fits most) a) (within (sum_fits most) b) ≡ within (sum_fits most) (summed a b)
 sums_join most a b = within_both (sum_fits most) summed summed_commutative (sum_bound most) a b
 
 sum_from : (s : ℤ) (vs : List ℤ) → fold ◌+ℤ◌ s vs ≡ s +ℤ total vs
@@ -74,4 +75,5 @@ sum_total = record {
 
 pub sum_is_fold : (most : ℕ) → IsFoldOf (sum_unit most) (sum_merged most) is_none (λ c. sum_number c ∷ []) (sum_up_to most)
 sum_is_fold most =
-    within_is_fold (sum_fits most) summed summed_commutative (sum_bound most) (λ v. (v, nat_abs v)) (λ vs. (total vs, magnitude vs)) sum_total (λ c. sum_number c ∷ [])
+    within_is_fold (sum_fits most) summed summed_commutative (sum_bound most) (λ v. (v, nat_abs v))
+    (λ vs. (total vs, magnitude vs)) sum_total (λ c. sum_number c ∷ [])

@@ -8,7 +8,8 @@ use mr_base::{Answer, Memory};
 use std::alloc::Global;
 use std::marker::PhantomData;
 
-/// Two combiners of the same values: a cell of each. Over where either is over; it answers the number of the first, then that of the second.
+/// Two combiners of the same values: a cell of each. Over where either is over; it answers the number of the first, then that of the
+/// second.
 pub struct Both<A, B> {
     of: PhantomData<(A, B)>,
 }
@@ -29,6 +30,10 @@ impl<A: Single, B: Single> Combiner for Both<A, B> {
     ghost laws = { side_commutative A.laws B.laws };
 
     ghost stays_over = { side_stays A.merged B.merged A.over B.over A.stays_over B.stays_over };
+
+    fn is_fixed() -> bool {
+        true
+    }
 
     fn unit(alloc: Global, value: i64) -> Result<(A::Cell, B::Cell), Memory> {
         let first = A::unit(alloc, value)?;
@@ -66,7 +71,8 @@ impl<A: Single, B: Single> Reducer<Both<A, B>> for Plain {
 
     ghost folded = { both_folded A.folded B.folded };
 
-    ghost is_fold = { both_is_fold A.unit_of B.unit_of A.merged B.merged A.over B.over A.number_of B.number_of A.folded B.folded A.is_fold B.is_fold };
+    ghost is_fold = { both_is_fold A.unit_of B.unit_of A.merged B.merged A.over B.over A.number_of B.number_of A.folded B.folded A.is_fold
+        B.is_fold };
 
     fn reduce(_alloc: Global, cell: (A::Cell, B::Cell)) -> Result<Answer, Memory> {
         Ok(Answer::two(A::number(&cell.0), B::number(&cell.1)))

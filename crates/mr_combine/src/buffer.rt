@@ -1,12 +1,13 @@
-ghost use Rattle.std.specs.Prelude.{◌≡◌, ◌≤◌, false, length, IfOk};
+ghost use Rattle.std.specs.Prelude.{◌≡◌, ◌≤◌, false, length};
 ghost use Rattle.std.specs.List.Sorted.{IsSorted};
 ghost use Rattle.std.specs.Ordering.{int_cmp};
 ghost use Rattle.mr_defs.specs.Folded.{list_folded, distinct_folded, median_folded};
 ghost use Rattle.mr_combine.specs.Joining.{never, never_stays};
-ghost use Rattle.mr_combine.specs.Ordered.{buffer_unit, buffer_merged, buffer_commutative, list_answer, list_is_fold, distinct_answer, distinct_is_fold, median_answer, median_is_fold};
+ghost use Rattle.mr_combine.specs.Ordered.{buffer_unit, buffer_merged, buffer_commutative, list_answer, list_is_fold, distinct_answer};
+ghost use Rattle.mr_combine.specs.Ordered.{distinct_is_fold, median_answer, median_is_fold};
 
 use crate::combiner::{Combiner, Reducer};
-use mr_base::{Answer, Few, Memory};
+use mr_base::{Answer, Memory};
 use std::alloc::Global;
 use std::marker::Model;
 
@@ -47,6 +48,10 @@ impl Combiner for Buffer {
 
     ghost stays_over = { never_stays buffer_merged };
 
+    fn is_fixed() -> bool {
+        false
+    }
+
     fn unit(alloc: Global, value: i64) -> Result<BufferCell, Memory> {
         let values = Vec::from_slice(alloc, &[value])?;
         Ok(BufferCell { values })
@@ -84,9 +89,8 @@ impl Reducer<Buffer> for List {
 
     ghost is_fold = { list_is_fold };
 
-    fn reduce(alloc: Global, cell: BufferCell) -> Result<Answer, Memory> {
-        let values = sorted(cell);
-        numbers(alloc, &values)
+    fn reduce(_alloc: Global, cell: BufferCell) -> Result<Answer, Memory> {
+        Ok(Answer::listed(sorted(cell)))
     }
 }
 
@@ -100,9 +104,8 @@ impl Reducer<Buffer> for Distinct {
 
     ghost is_fold = { distinct_is_fold };
 
-    fn reduce(alloc: Global, cell: BufferCell) -> Result<Answer, Memory> {
-        let values = different(cell);
-        numbers(alloc, &values)
+    fn reduce(_alloc: Global, cell: BufferCell) -> Result<Answer, Memory> {
+        Ok(Answer::listed(different(cell)))
     }
 }
 
@@ -141,17 +144,4 @@ fn different(cell: BufferCell) -> Vec<i64>
     let mut values = sorted(cell);
     values.dedup();
     values
-}
-
-/// The answer of these numbers.
-fn numbers(alloc: Global, values: &[i64]) -> Result<Answer, Memory>
-    ensures { IfOk result (λ answer. answer ≡ values.now) }
-{
-    let room = u32::try_from(values.len()).unwrap_or(u32::MAX);
-    let mut few = Few::with_room(alloc, room)?;
-    for value in values {
-        few.room()?;
-        few.push(*value as i128);
-    }
-    Ok(Answer::many(few))
 }

@@ -1,8 +1,10 @@
-ghost use Rattle.std.specs.Prelude.{◌≡◌, ℤ, List, Bool, true, false, Option, IfOk, OnOk, OnErr, IsOk, IsTrue, []};
+ghost use Rattle.std.specs.Prelude.{◌≡◌, ℕ, ℤ, List, Bool, true, false, Option, IfOk, OnOk, OnErr, IsOk, IsTrue, [], take};
 ghost use Rattle.mr_defs.specs.Emission.{Answer};
 ghost use Rattle.mr_combine.specs.Fold.{IsFoldOf};
+ghost use Rattle.mr_combine.specs.Runs.{added};
 ghost use Rattle.mr_defs.specs.Commutative.{IsCommutative};
 
+use crate::run::Run;
 use mr_base::{Answer, Emitted, Memory};
 use std::alloc::Global;
 
@@ -28,6 +30,10 @@ pub trait Combiner {
     // Whether no call takes memory.
     ghost fixed: { Bool };
 
+    /// Whether no call takes memory.
+    fn is_fixed() -> bool
+        ensures { result ≡ fixed };
+
     /// The cell of one value.
     fn unit(alloc: Global, value: Self::Value) -> Result<Self::Cell, Memory>
         requires { Self.Value.allowed value }
@@ -40,6 +46,18 @@ pub trait Combiner {
         ensures ok { OnOk result (cell.new ≡ merged cell.old (unit_of value)) }
         ensures err { OnErr result (cell.new ≡ cell.old) }
         ensures no_memory { IsTrue fixed → IsOk result };
+
+    /// Merges the cells of the values of a run, one after the other. After `Memory` those of a front of the run were merged.
+    fn add_run<R: Run<Value = Self::Value>>(cell: &mut Self::Cell, run: &R) -> Result<(), Memory>
+        ensures ok { OnOk result (cell.new ≡ added unit_of merged cell.old (R.values run.now)) }
+        ensures err { OnErr result ((n : ℕ) × (cell.new ≡ added unit_of merged cell.old (take n (R.values run.now)))) }
+        ensures no_memory { IsTrue fixed → IsOk result }
+    {
+        for i in 0..run.len() {
+            Self::add(cell, run.value(i))?;
+        }
+        Ok(())
+    }
 
     /// A cell that is seen as the same.
     fn copy(alloc: Global, cell: &Self::Cell) -> Result<Self::Cell, Memory>

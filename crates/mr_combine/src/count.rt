@@ -2,7 +2,8 @@ ghost use Rattle.std.specs.Prelude.{◌≡◌, true, refl};
 ghost use Rattle.std.specs.Option.{is_none};
 ghost use Rattle.mr_defs.specs.Folded.{count_folded};
 ghost use Rattle.mr_combine.specs.Bounded.{within};
-ghost use Rattle.mr_combine.specs.Counts.{count_fits, count_unit, count_merged, count_commutative, count_number, count_is_fold, count_stays_over};
+ghost use Rattle.mr_combine.specs.Counts.{count_fits, count_unit, count_merged, count_commutative, count_number, count_is_fold};
+ghost use Rattle.mr_combine.specs.Counts.{count_stays_over};
 
 use crate::LIMIT;
 use crate::combiner::{Combiner, FixedCombiner};
@@ -87,6 +88,10 @@ impl Combiner for Count {
     ghost laws = { count_commutative };
 
     ghost stays_over = { count_stays_over };
+
+    fn is_fixed() -> bool {
+        true
+    }
 
     fn unit(_alloc: Global, _value: i64) -> Result<CountCell, Memory> {
         Ok(CountCell::one())

@@ -2,7 +2,8 @@ ghost use Rattle.std.specs.Prelude.{◌≡◌, ℤ, List, Option, true, refl, bi
 ghost use Rattle.std.specs.Int.{int_min, int_max};
 ghost use Rattle.mr_defs.specs.Commutative.{IsCommutative};
 ghost use Rattle.mr_defs.specs.Emission.{Answer};
-ghost use Rattle.mr_combine.specs.Joining.{Joins, never, never_stays, joining_is_fold, numbers_join, bits_join, both_there, there_commutative, there_join};
+ghost use Rattle.mr_combine.specs.Joining.{Joins, never, never_stays, joining_is_fold, numbers_join, bits_join, both_there};
+ghost use Rattle.mr_combine.specs.Joining.{there_commutative, there_join};
 ghost use Rattle.mr_defs.specs.Folded.{min_folded, max_folded, one_folded, and_folded, or_folded, xor_folded};
 ghost use Rattle.mr_defs.proofs.FoldLaws.{int_min_commutative, int_max_commutative, and_commutative, or_commutative, xor_commutative};
 
@@ -13,7 +14,8 @@ use mr_base::Memory;
 use std::alloc::Global;
 use std::marker::PhantomData;
 
-/// An operation in which neither order nor grouping counts. `Joined` makes a combiner of each, whose cell is seen as what is kept, and is never over.
+/// An operation in which neither order nor grouping counts. `Joined` makes a combiner of each, whose cell is seen as what is kept, and is
+/// never over.
 pub trait Operation {
     /// What a cell keeps.
     type Scalar: Scalar;
@@ -54,6 +56,10 @@ impl<O: Operation> Combiner for Joined<O> {
     ghost laws = { O.laws };
 
     ghost stays_over = { never_stays O.joined };
+
+    fn is_fixed() -> bool {
+        true
+    }
 
     fn unit(_alloc: Global, value: i64) -> Result<O::Scalar, Memory> {
         Ok(O::Scalar::of(value))

@@ -2,7 +2,8 @@ ghost use Rattle.std.specs.Prelude.{◌≡◌, false, ℤ, List, IfOk, map};
 ghost use Rattle.std.specs.List.{list_any};
 ghost use Rattle.std.specs.Option.{is_none};
 ghost use Rattle.mr_defs.specs.Folded.{vecsum_folded};
-ghost use Rattle.mr_combine.specs.Points.{vecsum_unit, vecsum_merged, vecsum_over, vecsum_answer, vecsum_commutative, vecsum_stays_over, vecsum_is_fold};
+ghost use Rattle.mr_combine.specs.Points.{vecsum_unit, vecsum_merged, vecsum_over, vecsum_answer, vecsum_commutative, vecsum_stays_over};
+ghost use Rattle.mr_combine.specs.Points.{vecsum_is_fold};
 
 use crate::combiner::{Combiner, Reducer};
 use crate::coordinates::add_all;
@@ -58,8 +59,8 @@ impl Model for VecSumCell {
     ghost view = { λ c. (c.points, c.sums.items) };
 }
 
-/// Counts the points of a key and adds each coordinate, where a shorter point ends in zeros; it answers the number, then the sums. Over where
-/// there are more than 9223372036854775807 points, or where the magnitudes of a coordinate add up past that number.
+/// Counts the points of a key and adds each coordinate, where a shorter point ends in zeros; it answers the number, then the sums. Over
+/// where there are more than 9223372036854775807 points, or where the magnitudes of a coordinate add up past that number.
 pub struct VecSum;
 
 impl Combiner for VecSum {
@@ -78,6 +79,10 @@ impl Combiner for VecSum {
     ghost laws = { vecsum_commutative };
 
     ghost stays_over = { vecsum_stays_over };
+
+    fn is_fixed() -> bool {
+        false
+    }
 
     fn unit(alloc: Global, value: Point) -> Result<VecSumCell, Memory> {
         let mut sums = Vec::new(alloc);

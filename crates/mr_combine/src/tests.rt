@@ -1,8 +1,8 @@
-ghost use Rattle.std.specs.Prelude.{◌≢◌, negsuc};
+ghost use Rattle.std.specs.Prelude.{◌≢◌, ◌*◌, negsuc, pos, map};
 
 use crate::{
     And, Both, Buffer, Combiner, Count, Distinct, List, Max, Median, Min, One, Or, Plain, Point,
-    Reducer, Sum, VecSum, Xor,
+    Reducer, Run, Single, Sum, VecSum, Xor,
 };
 use mr_base::{Answer, Memory};
 use std::alloc::Global;
@@ -82,6 +82,58 @@ fn sums_over_in_any_order(rt: HostRuntime) -> Result<(), Fail> {
     assert!(rt; over_each_way(alloc, 1, -5, 9223372036854775807)?);
     assert!(rt; over_each_way(alloc, -5, 9223372036854775807, 1)?);
     assert!(rt; over_each_way(alloc, -5, 1, 9223372036854775807)?);
+    Ok(())
+}
+
+// Numbers of units, each of which is so large that 255 of them come close to the largest magnitude.
+#[derive(Drop)]
+struct Units<'a> {
+    counts: &'a [u8],
+}
+
+impl<'a> Run for Units<'a> {
+    type Value = i64;
+
+    ghost values = { λ u. map (λ n. pos (n * 36170086419038335)) u.counts.now };
+
+    fn len(&self) -> usize {
+        self.counts.len()
+    }
+
+    fn value(&self, at: usize) -> i64 {
+        self.counts[at] as i64 * 36170086419038335
+    }
+}
+
+// Whether a run and the same values one by one come to the same.
+fn alike(alloc: Global, counts: &[u8]) -> Result<bool, Memory> {
+    let run = Units { counts };
+    let mut whole = Sum::unit(alloc, -7)?;
+    Sum::add_run(&mut whole, &run)?;
+    let mut single = Sum::unit(alloc, -7)?;
+    for i in 0..run.len() {
+        Sum::add(&mut single, run.value(i))?;
+    }
+    Ok(Sum::is_over(&whole) == Sum::is_over(&single) && Sum::number(&whole) == Sum::number(&single))
+}
+
+#[test]
+fn runs_of_values(rt: HostRuntime) -> Result<(), Fail> {
+    let alloc = rt.alloc();
+    let cases: [&[u8]; 6] = [
+        &[],
+        &[1, 0, 2],
+        &[255],
+        &[250, 6],
+        &[255, 255, 255],
+        &[9; 40],
+    ];
+    for counts in cases {
+        assert!(rt; alike(alloc, counts)?, "{counts:?}");
+    }
+    let mut count = Count::unit(alloc, 1)?;
+    Count::add_run(&mut count, &Units { counts: &[4, 5] })?;
+    assert!(rt; Count::number(&count) == 3 && Count::is_fixed() && !Buffer::is_fixed());
     Ok(())
 }
 

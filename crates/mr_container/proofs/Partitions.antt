@@ -28,11 +28,13 @@ module _ {K C : Type 0} (R : K → K → Ordering) where
   sorted_drop (suc n) (e ∷ es) h = sorted_drop n es (both_second _ _ h)
 
   -- the keys of a partition ascend from each place on
-  pub part_ascends : (p : K → Bool) (n : ℕ) (es : List (K × C)) → T (is_sorted R es) → IsStrictlySortedBy R (map (λ e. e.0) (filter (λ e. p e.0) (drop n es)))
+  pub part_ascends : (p : K → Bool) (n : ℕ) (es : List (K × C)) → T (is_sorted R es)
+      → IsStrictlySortedBy R (map (λ e. e.0) (filter (λ e. p e.0) (drop n es)))
   part_ascends p n es h = strictly _ (is_sorted-where_key R p (drop n es) (sorted_drop n es h))
 
   pub sorted_distinct : (es : List (K × C)) → T (is_sorted R es) → IsDistinct (eq_by_cmp R) (map (λ e. e.0) es)
   sorted_distinct es h = IsDistinct-from_sorted R _ (strictly es h)
 
-  pub part_of_sorted : IsAntisymmetric R → (part_of : K → ℕ) (part : ℕ) (es : List (K × C)) → T (is_sorted R es) → IsPartition R (λ k. find R k es) part_of part (filter (λ e. part_of e.0 == part) es)
+  pub part_of_sorted : IsAntisymmetric R → (part_of : K → ℕ) (part : ℕ) (es : List (K × C)) → T (is_sorted R es)
+      → IsPartition R (λ k. find R k es) part_of part (filter (λ e. part_of e.0 == part) es)
   part_of_sorted one part_of part es h = part_of_distinct R one part_of part es (sorted_distinct es h)

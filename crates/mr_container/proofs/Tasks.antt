@@ -21,11 +21,16 @@ module _ {A : Type 0} (f : ℕ → List A) (es : List A) where
   front_length n k = length (flat_map f (range_with_len 0 n)) + min k (length (f n))
 
   -- a front of a task is a front of all tasks
-  pub tasks_some : (n k total : ℕ) → n < total → (es ++ flat_map f (range_with_len 0 n)) ++ take k (f n) ≡ es ++ take (front_length n k) (flat_map f (range_with_len 0 total))
+  pub tasks_some : (n k total : ℕ) → n < total
+      → (es ++ flat_map f (range_with_len 0 n)) ++ take k (f n) ≡ es ++ take (front_length n k) (flat_map f (range_with_len 0 total))
   tasks_some n k total h =
       append_assoc es _ _
-      ∙ ap (λ l. es ++ (flat_map f (range_with_len 0 n) ++ l)) (sym (take_min k (f n)) ∙ sym (take-append-le (min k (length (f n))) (f n) (flat_map f (range_with_len (0 + n + 1) (total - (n + 1)))) (omega arith)))
-      ∙ ap (λ l. es ++ l) (sym (take-append-add (flat_map f (range_with_len 0 n)) (f n ++ flat_map f (range_with_len (0 + n + 1) (total - (n + 1)))) (min k (length (f n)))) ∙ ap (take (front_length n k)) (sym whole))
+      ∙ ap (λ l. es ++ (flat_map f (range_with_len 0 n) ++ l))
+      (sym (take_min k (f n))
+      ∙ sym (take-append-le (min k (length (f n))) (f n) (flat_map f (range_with_len (0 + n + 1) (total - (n + 1)))) (omega arith)))
+      ∙ ap (λ l. es ++ l) (sym
+      (take-append-add (flat_map f (range_with_len 0 n)) (f n ++ flat_map f (range_with_len (0 + n + 1) (total - (n + 1))))
+      (min k (length (f n)))) ∙ ap (take (front_length n k)) (sym whole))
     where
       same : 0 + n ≡ n
       same = omega arith
@@ -33,9 +38,11 @@ module _ {A : Type 0} (f : ℕ → List A) (es : List A) where
       parts : total ≡ n + (1 + (total - (n + 1)))
       parts = omega (arith, h)
 
-      whole : flat_map f (range_with_len 0 total) ≡ flat_map f (range_with_len 0 n) ++ (f n ++ flat_map f (range_with_len (0 + n + 1) (total - (n + 1))))
+      whole : flat_map f (range_with_len 0 total)
+          ≡ flat_map f (range_with_len 0 n) ++ (f n ++ flat_map f (range_with_len (0 + n + 1) (total - (n + 1))))
       whole =
           ap (λ j. flat_map f (range_with_len 0 j)) parts
-          ∙ ap (flat_map f) (range-append 0 n (1 + (total - (n + 1))) ∙ ap (λ l. range_with_len 0 n ++ l) (range-append (0 + n) 1 (total - (n + 1))))
+          ∙ ap (flat_map f)
+          (range-append 0 n (1 + (total - (n + 1))) ∙ ap (λ l. range_with_len 0 n ++ l) (range-append (0 + n) 1 (total - (n + 1))))
           ∙ flat_map-append f (range_with_len 0 n) ((0 + n) ∷ range_with_len (0 + n + 1) (total - (n + 1)))
           ∙ ap (λ k. flat_map f (range_with_len 0 n) ++ (f k ++ flat_map f (range_with_len (0 + n + 1) (total - (n + 1))))) same

@@ -18,18 +18,27 @@ use Rattle.mr_defs.proofs.Shuffled.{IsPermutation-at}
 
 module _ {K V : Type 0} {R : K → K → Ordering} (o : IsTotalOrder R) (one : IsAntisymmetric R) (inside : K → Bool) where
   -- what is noted of a list is noted of each order of it
-  pub noted_in_any_order : (noted : Noted K) (es fs : List (Emission K V)) → IsPermutation es fs → IsNotedOf R inside noted es → IsNotedOf R inside noted fs
+  pub noted_in_any_order : (noted : Noted K) (es fs : List (Emission K V)) → IsPermutation es fs → IsNotedOf R inside noted es
+      → IsNotedOf R inside noted fs
   noted_in_any_order noted es fs p was = record {
-    malformed = was.malformed ∙ sym (malformed_read R inside es) ∙ sym (joined_by-IsPermutation (lesser_commutative nat_cmp_total nat_cmp-IsAntisymmetric) malformed_offset es fs p) ∙ malformed_read R inside fs;
-    outside = was.outside ∙ sym (outside_read R inside es) ∙ sym (joined_by-IsPermutation (lesser_commutative o one) (λ e. passing (λ k. not (inside k)) (any_key e)) es fs p) ∙ outside_read R inside fs;
-    over = was.over ∙ sym (large_read R inside es) ∙ sym (joined_by-IsPermutation (lesser_commutative o one) (λ e. passing inside (large_key e)) es fs p) ∙ large_read R inside fs;
+    malformed = was.malformed ∙ sym (malformed_read R inside es)
+        ∙ sym (joined_by-IsPermutation (lesser_commutative nat_cmp_total nat_cmp-IsAntisymmetric) malformed_offset es fs p)
+        ∙ malformed_read R inside fs;
+    outside = was.outside ∙ sym (outside_read R inside es)
+        ∙ sym (joined_by-IsPermutation (lesser_commutative o one) (λ e. passing (λ k. not (inside k)) (any_key e)) es fs p)
+        ∙ outside_read R inside fs;
+    over = was.over ∙ sym (large_read R inside es)
+        ∙ sym (joined_by-IsPermutation (lesser_commutative o one) (λ e. passing inside (large_key e)) es fs p) ∙ large_read R inside fs;
   }
 
   -- what stands for a list stands for each order of it
-  pub any_order : {C : Type 0} {merged : C → C → C} → IsCommutative merged → (unit : V → C) (cell_at : K → Option C) (cells : ℕ) (noted : Noted K) (es fs : List (Emission K V)) → IsPermutation es fs
+  pub any_order : {C : Type 0} {merged : C → C → C} → IsCommutative merged
+      → (unit : V → C) (cell_at : K → Option C) (cells : ℕ) (noted : Noted K) (es fs : List (Emission K V)) → IsPermutation es fs
       → StandsFor R inside unit merged cell_at cells noted es → StandsFor R inside unit merged cell_at cells noted fs
   any_order laws unit cell_at cells noted es fs p was = record {
-    each = λ k. was.each k ∙ sym (ap (λ c. if inside k then c else None) (joined_by-IsPermutation laws (λ v. Some (unit v)) (at R es k) (at R fs k) (IsPermutation-at R es fs k p)));
+    each = λ k. was.each k ∙ sym
+        (ap (λ c. if inside k then c else None)
+        (joined_by-IsPermutation laws (λ v. Some (unit v)) (at R es k) (at R fs k) (IsPermutation-at R es fs k p)));
     count = was.count ∙ sym (cells_of-IsPermutation R o one inside es fs p);
     faults = noted_in_any_order noted es fs p was.faults;
     twice = was.twice;
@@ -37,7 +46,8 @@ module _ {K V : Type 0} {R : K → K → Ordering} (o : IsTotalOrder R) (one : I
 
 -- cells and faults that are the same stand for the same
 module _ {K V C : Type 0} (R : K → K → Ordering) (inside : K → Bool) (unit : V → C) (merged : C → C → C) where
-  pub kept : (cell_at cell_at' : K → Option C) (cells cells' : ℕ) (noted noted' : Noted K) → ((k : K) → cell_at' k ≡ cell_at k) → cells' ≡ cells → noted' ≡ noted → (es : List (Emission K V))
+  pub kept : (cell_at cell_at' : K → Option C) (cells cells' : ℕ) (noted noted' : Noted K) → ((k : K) → cell_at' k ≡ cell_at k)
+      → cells' ≡ cells → noted' ≡ noted → (es : List (Emission K V))
       → StandsFor R inside unit merged cell_at cells noted es → StandsFor R inside unit merged cell_at' cells' noted' es
   kept cell_at cell_at' cells cells' noted noted' each count faults es was = record {
     each = λ k. each k ∙ was.each k;

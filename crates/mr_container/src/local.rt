@@ -1,11 +1,14 @@
-ghost use Rattle.std.specs.Prelude.{◌≡◌, ℕ, ◌++◌, ◌∷◌, [], List, All, Bool, take, vec_capacity, OnOk, OnErr, IsOk, IsTrue};
+ghost use Rattle.std.specs.Prelude.{◌≡◌, ℕ, ◌++◌, ◌∷◌, [], List, All, Bool, true, false, take, vec_capacity, IfOk, OnOk, OnErr, IsOk};
+ghost use Rattle.std.specs.Prelude.{IsTrue};
 ghost use Rattle.std.specs.List.Sorted.{IsPermutation};
 ghost use Rattle.mr_defs.specs.Emission.{Emission, Pair, TooLarge, Malformed};
 ghost use Rattle.mr_defs.specs.Faulty.{Noted};
 ghost use Rattle.mr_base.specs.Noting.{noted_of};
-ghost use Rattle.mr_container.specs.Block.{block_emissions};
+ghost use Rattle.mr_container.specs.Block.{block_emissions, run_emissions};
 
 use mr_base::{Emitted, Faults, Key, Memory};
+use mr_combine::Run;
+use std::alloc::Global;
 
 /// The container of one worker: the pairs that its tasks emit are combined here, key by key.
 ///
@@ -38,7 +41,8 @@ pub trait Local: Drop {
     fn emit(&mut self, key: Self::Key, value: Self::Value) -> Result<(), Memory>
         requires key { Self.Key.allowed key }
         requires value { Self.Value.allowed value }
-        ensures ok { OnOk result ((es : List (Emission Self.Key Self.Value)) → stands self.old es → stands self.new (es ++ Pair key value ∷ [])) }
+        ensures ok { OnOk result
+            ((es : List (Emission Self.Key Self.Value)) → stands self.old es → stands self.new (es ++ Pair key value ∷ [])) }
         ensures err { OnErr result (same self.old self.new) }
         ensures no_memory { IsTrue (spares self.old key) → IsOk result }
         ensures spares { (k : Self.Key) → IsTrue (spares self.old k) → IsTrue (spares self.new k) }
@@ -50,7 +54,8 @@ pub trait Local: Drop {
     /// a mapper fills a block of some hundred pairs and hands it over. After `Memory` the pairs of a front of the block were emitted.
     fn emit_block(&mut self, block: &mut Vec<(Self::Key, Self::Value)>) -> Result<(), Memory>
         requires { All (λ p. Self.Key.allowed p.0 × Self.Value.allowed p.1) block.old.items }
-        ensures ok { OnOk result ((es : List (Emission Self.Key Self.Value)) → stands self.old es → stands self.new (es ++ block_emissions block.old.items)) }
+        ensures ok { OnOk result
+            ((es : List (Emission Self.Key Self.Value)) → stands self.old es → stands self.new (es ++ block_emissions block.old.items)) }
         ensures err { OnErr result ((es : List (Emission Self.Key Self.Value)) → stands self.old es
             → (n : ℕ) × stands self.new (es ++ take n (block_emissions block.old.items))) }
         ensures no_memory { All (λ p. IsTrue (spares self.old p.0)) block.old.items → IsOk result }
@@ -62,6 +67,61 @@ pub trait Local: Drop {
             self.emit(key, value)?;
         }
         Ok(())
+    }
+
+    /// Combines the values of a run into the cell of the key, and answers true; or answers false, and nothing has changed.
+    ///
+    /// A container that can go to the cell of a key once for all values does so here. After `Memory` those of a front of the run were
+    /// combined.
+    fn add_run<R: Run<Value = Self::Value>>(
+        &mut self,
+        _key: &Self::Key,
+        _run: &R,
+    ) -> Result<bool, Memory>
+        requires { Self.Key.allowed _key.now }
+        ensures added { IfOk result (λ added. added ≡ true → (es : List (Emission Self.Key Self.Value)) → stands self.old es
+            → stands self.new (es ++ run_emissions _key.now (R.values _run.now))) }
+        ensures unchanged { IfOk result (λ added. added ≡ false → same self.old self.new) }
+        ensures err { OnErr result ((es : List (Emission Self.Key Self.Value)) → stands self.old es
+            → (n : ℕ) × stands self.new (es ++ take n (run_emissions _key.now (R.values _run.now)))) }
+        ensures no_memory { IsTrue (spares self.old _key.now) → IsOk result }
+        ensures spares { (k : Self.Key) → IsTrue (spares self.old k) → IsTrue (spares self.new k) }
+        ensures origin { same_origin self.old self.new }
+    {
+        Ok(false)
+    }
+
+    /// Emits the pairs of a key with the values of a run, in their order. After `Memory` the pairs of a front of the run were emitted.
+    final fn emit_run<R: Run<Value = Self::Value>>(
+        &mut self,
+        alloc: Global,
+        key: &Self::Key,
+        run: &R,
+    ) -> Result<(), Memory>
+        requires { Self.Key.allowed key.now }
+        ensures ok { OnOk result ((es : List (Emission Self.Key Self.Value)) → stands self.old es
+            → stands self.new (es ++ run_emissions key.now (R.values run.now))) }
+        ensures err { OnErr result ((es : List (Emission Self.Key Self.Value)) → stands self.old es
+            → (n : ℕ) × stands self.new (es ++ take n (run_emissions key.now (R.values run.now)))) }
+        ensures no_memory { IsTrue Self.Key.copies_free → IsTrue (spares self.old key.now) → IsOk result }
+        ensures spares { (k : Self.Key) → IsTrue (spares self.old k) → IsTrue (spares self.new k) }
+        ensures origin { same_origin self.old self.new }
+    {
+        if self.add_run(key, run)? {
+            return Ok(());
+        }
+        for i in 0..run.len() {
+            let copied = key.copy(alloc)?;
+            self.emit(copied, run.value(i))?;
+        }
+        Ok(())
+    }
+
+    /// Whether no pair of any key takes memory from now on, as far as the container can tell.
+    fn spares_all(&self) -> bool
+        ensures { result ≡ true → (k : Self.Key) → IsTrue (spares self.now k) }
+    {
+        false
     }
 
     /// Notes that the key has a value which is too large. Takes no memory.

@@ -29,8 +29,11 @@ pub trait Mapper {
         out: &mut L,
     ) -> Result<(), Memory>
         requires { task < task_count self.now }
-        ensures ok { OnOk result ((es : List (Emission Self.Key Self.Value)) → L.stands out.old es → L.stands out.new (es ++ task_emissions self.now task)) }
-        ensures err { OnErr result ((es : List (Emission Self.Key Self.Value)) → L.stands out.old es → (n : ℕ) × L.stands out.new (es ++ take n (task_emissions self.now task))) }
+        ensures ok { OnOk result
+            ((es : List (Emission Self.Key Self.Value)) → L.stands out.old es → L.stands out.new (es ++ task_emissions self.now task)) }
+        ensures err { OnErr result
+            ((es : List (Emission Self.Key Self.Value)) → L.stands out.old es
+            → (n : ℕ) × L.stands out.new (es ++ take n (task_emissions self.now task))) }
         ensures origin { L.same_origin out.old out.new };
 }
 

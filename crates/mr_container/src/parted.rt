@@ -30,8 +30,8 @@ pub trait Parted: Local {
     /// The keys and cells that are ahead of a cursor.
     ghost left: { Self → Cursor → List (Self.Key × Self.Fold.Cell) };
 
-    /// Arranges the keys by partition, for the number of partitions by which they will be read, so that a cursor passes over no other partition's
-    /// keys. Nothing that contracts see changes, and cursors serve as well without it.
+    /// Arranges the keys by partition, for the number of partitions by which they will be read, so that a cursor passes over no other
+    /// partition's keys. Nothing that contracts see changes, and cursors serve as well without it.
     ///
     /// By default it does nothing. For a container that has many keys, so that 64 partitions are read in little more time than one.
     fn arrange(&mut self, _alloc: Global, _parts: u32) -> Result<(), Memory>
@@ -55,13 +55,15 @@ pub trait Parted: Local {
     fn next(&self, cursor: &mut Cursor) -> Option<(&Self::Key, &<Self::Fold as Combiner>::Cell)>
         requires { stands_in self.now cursor.old }
         ensures stands { stands_in self.now cursor.new }
-        ensures entry { MatchOption result ((left self.now cursor.old ≡ []) × (left self.now cursor.new ≡ [])) (λ e. left self.now cursor.old ≡ (e.0.now, e.1.now) ∷ left self.now cursor.new) };
+        ensures entry { MatchOption result ((left self.now cursor.old ≡ []) × (left self.now cursor.new ≡ []))
+            (λ e. left self.now cursor.old ≡ (e.0.now, e.1.now) ∷ left self.now cursor.new) };
 
     ghost means: { (s : Self) (es : List (Emission Self.Key Self.Value)) → Self.stands s es
         → StandsFor Self.Key.cmp inside Self.Fold.unit_of Self.Fold.merged (cell s) (Self.cell_count s) (Self.noted s) es };
 
     ghost whole_meaning: { (s : Self) (es : List (Emission Self.Key Self.Value))
-        → StandsFor Self.Key.cmp inside Self.Fold.unit_of Self.Fold.merged (cell s) (Self.cell_count s) (Self.noted s) es → Self.stands s es };
+        → StandsFor Self.Key.cmp inside Self.Fold.unit_of Self.Fold.merged (cell s) (Self.cell_count s) (Self.noted s) es
+        → Self.stands s es };
 
     ghost same_cells: { (s t : Self) → Self.same s t → (k : Self.Key) → cell t k ≡ cell s k };
 

@@ -1,4 +1,5 @@
-ghost use Rattle.std.specs.Prelude.{◌≡◌, ◌&&◌, ◌<◌, ◌≤◌, ◌%◌, ◌∷◌, ◌++◌, [], ℕ, T, true, is_some, length, map, vec_len, Option, IfOk, IfErr};
+ghost use Rattle.std.specs.Prelude.{◌≡◌, ◌&&◌, ◌<◌, ◌≤◌, ◌%◌, ◌∷◌, ◌++◌, [], ℕ, T, true, is_some, length, map, vec_len, Option, IfOk};
+ghost use Rattle.std.specs.Prelude.{IfErr};
 ghost use Rattle.std.specs.FinMap.{find, is_sorted};
 ghost use Rattle.std.specs.List.{HoldsAt};
 ghost use Rattle.std.specs.List.Sorted.{IsPartitionPoint, IsSearchInRange, IsStrictlySortedBy};
@@ -47,7 +48,8 @@ impl<K: Key, C: Combiner> SortedLocal<K, C> {
     fn search(&self, key: &K) -> Result<usize, usize>
         ensures range { IsSearchInRange result (vec_len self.now.entries) }
         ensures found { IfOk result (HoldsAt (λ e. K.cmp e.0 key.now ≡ Equal) self.now.entries.items) }
-        ensures absent { IfErr result (IsPartitionPoint (λ e. K.cmp e.0 key.now ≡ Less) (λ e. K.cmp e.0 key.now ≡ Greater) self.now.entries.items) }
+        ensures absent { IfErr result
+            (IsPartitionPoint (λ e. K.cmp e.0 key.now ≡ Less) (λ e. K.cmp e.0 key.now ≡ Greater) self.now.entries.items) }
     {
         self.entries.binary_search_by(
             |e: &(K, C::Cell)| -> Ordering
@@ -62,7 +64,8 @@ impl<K: Key, C: Combiner> Local for SortedLocal<K, C> {
 
     type Value = C::Value;
 
-    ghost stands = { λ s es. StandsFor K.cmp (λ _. true) C.unit_of C.merged (λ k. find K.cmp k s.entries.items) (vec_len s.entries) (noted_of s.faults) es };
+    ghost stands = { λ s es. StandsFor K.cmp (λ _. true) C.unit_of C.merged (λ k. find K.cmp k s.entries.items) (vec_len s.entries)
+        (noted_of s.faults) es };
 
     ghost noted = { λ s. noted_of s.faults };
 
@@ -79,8 +82,12 @@ impl<K: Key, C: Combiner> Local for SortedLocal<K, C> {
     ghost same_refl = { λ _. (refl, refl) };
 
     ghost same_keeps = { λ s t e.
-        let count = t.entries.ok.0 ∙ ap length e.0 ∙ sym s.entries.ok.0 in
-        (kept K.cmp (λ _. true) C.unit_of C.merged _ _ _ _ _ _ (λ k. ap (find K.cmp k) e.0) count e.1, e.1, count, λ k. ap (λ es. C.fixed && is_some (find K.cmp k es)) e.0) };
+        let count = t.entries.ok.0 ∙ ap length e.0 ∙ sym s.entries.ok.0 in (
+          kept K.cmp (λ _. true) C.unit_of C.merged _ _ _ _ _ _ (λ k. ap (find K.cmp k) e.0) count e.1,
+          e.1,
+          count,
+          λ k. ap (λ es. C.fixed && is_some (find K.cmp k es)) e.0,
+        ) };
 
     ghost origin_refl = { λ _. tt };
 
@@ -142,8 +149,10 @@ impl<K: Key, C: Combiner> Parted for SortedLocal<K, C> {
     ghost same_cells = { λ s t e k. ap (find K.cmp k) e.0 };
 
     ghost same_cursors = { λ s t e c h.
-        let count = t.entries.ok.0 ∙ ap length e.0 ∙ sym s.entries.ok.0 in
-        ((subst (λ n. c.place ≤ n) (sym count) h.0, h.1), ap (λ es. filter (λ e. K.hash_of e.0 % c.parts == c.part) (drop c.place es)) e.0) };
+        let count = t.entries.ok.0 ∙ ap length e.0 ∙ sym s.entries.ok.0 in (
+          (subst (λ n. c.place ≤ n) (sym count) h.0, h.1),
+          ap (λ es. filter (λ e. K.hash_of e.0 % c.parts == c.part) (drop c.place es)) e.0,
+        ) };
 
     ghost spares_present = { λ s k f p. both_true _ _ f p };
 

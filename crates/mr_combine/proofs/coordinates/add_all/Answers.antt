@@ -23,7 +23,8 @@ returns-clause-ok g c =
       ap length c.in_ok-begin_rest.ensures.ok,
       length-append c.args.sums.now.items (map f c.split_at.result.1.now),
     ) in
-    let filled : c.deref_mut.result.now ≡ c.args.sums.now.items ++ map f (drop there c.args.others.now) = c.deref_mut.ensures.value ∙ c.in_ok-begin_rest.ensures.ok ∙ ap (λ l. c.args.sums.now.items ++ map f l) c.split_at.ensures.back in
+    let filled : c.deref_mut.result.now ≡ c.args.sums.now.items ++ map f (drop there c.args.others.now) =
+    c.deref_mut.ensures.value ∙ c.in_ok-begin_rest.ensures.ok ∙ ap (λ l. c.args.sums.now.items ++ map f l) c.split_at.ensures.back in
     ap (λ n. take n (sums ++ drop (length sums) items)) long
     ∙ take-append_seam sums (drop (length sums) items)
     ∙ c.add_first.ensures

@@ -18,7 +18,9 @@ loop-at-preserved g c = record {
       let others = c.args.others.now in
       rw (add-one at)
       (ap (set sums at) (c.add_to.ensures ∙ ap (λ o. sum_merged limit (get_or sums at c.index-sums-at.result) (f o)) c.index-others-at.is)
-      ∙ ap (λ l. set l at (sum_merged limit (get_or l at c.index-sums-at.result) (f (get_or others at c.index-others-at.result)))) c.loop-at.invariant.added
-      ∙ sym (zip_more (sum_merged limit) f c.args.sums.now others at c.index-sums-at.result c.index-others-at.result (omega arith) (omega arith)));
+      ∙ ap (λ l. set l at (sum_merged limit (get_or l at c.index-sums-at.result) (f (get_or others at c.index-others-at.result))))
+      c.loop-at.invariant.added
+      ∙ sym (zip_more (sum_merged limit) f c.args.sums.now others at c.index-sums-at.result c.index-others-at.result (omega arith)
+      (omega arith)));
   long = omega (arith, length-set c.loop-at.sums c.loop-at.at c.add_to.new.cell);
 }

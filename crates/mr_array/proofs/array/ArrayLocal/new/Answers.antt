@@ -8,4 +8,6 @@ pub returns-clause-empty : goal.returns-clause-empty
 returns-clause-empty g c =
     let none = c.none.ensures in
     let cells = c.in_ok-cells.ensures.items in
-    stands_empty (is_below g.S.Size.size) g.C.Combiner.unit_of g.C.Combiner.merged _ _ _ (λ q. ap (λ l. cell_in l q) cells ∙ none_there c.args.size q) (ap filled cells ∙ none_filled g.row.C-Cell.Denot c.args.size) none.malformed none.outside none.twice none.over
+    stands_empty (is_below g.S.Size.size) g.C.Combiner.unit_of g.C.Combiner.merged
+    _ _ _ (λ q. ap (λ l. cell_in l q) cells ∙ none_there c.args.size q)
+    (ap filled cells ∙ none_filled g.row.C-Cell.Denot c.args.size) none.malformed none.outside none.twice none.over

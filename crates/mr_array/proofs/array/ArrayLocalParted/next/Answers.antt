@@ -13,8 +13,11 @@ index-requires-in-Some g c =
 pub returns-in-Some-clause-stands : goal.returns-in-Some-clause-stands
 returns-in-Some-clause-stands g c =
     let kept = c.loop-cursor.invariant in
-    let cursor = c.loop-cursor.cursor in
-    (kept.some, stride_kept cursor.parts cursor.part c.args.self.now.cells.items kept.some cursor.place (ap (λ q. cursor.place % q) kept.parts ∙ kept.stride ∙ sym kept.part))
+    let cursor = c.loop-cursor.cursor in (
+      kept.some,
+      stride_kept cursor.parts cursor.part c.args.self.now.cells.items kept.some cursor.place
+          (ap (λ q. cursor.place % q) kept.parts ∙ kept.stride ∙ sym kept.part),
+    )
 
 pub returns-in-Some-clause-entry : goal.returns-in-Some-clause-entry
 returns-in-Some-clause-entry g c =
@@ -24,9 +27,15 @@ returns-in-Some-clause-entry g c =
     let place = cursor.place in
     let within : place < length local.cells.items = omega (arith, c.loop-cursor-test.true, local.places, local.cells.ok.0) in
     kept.left
-    ∙ taken c.args.cursor.now.parts c.args.cursor.now.part local.cells.items (omega (arith, kept.some, kept.parts)) place c.in-Some.cell c.index.result.now within c.index.ensures c.in-Some.is kept.stride
-    ∙ (λ i. (sym (key_there local.keys.items g.S.Size.size place c.index-in-Some.result.now local.named (omega (arith, c.loop-cursor-test.true, local.sized)) c.index-in-Some.ensures) i, c.in-Some.cell)
-    ∷ filter (λ e. e.0 % sym kept.parts i == sym kept.part i) (numbered (place + sym kept.parts i) (drop (place + sym kept.parts i) local.cells.items)))
+    ∙ taken c.args.cursor.now.parts c.args.cursor.now.part local.cells.items
+    (omega (arith, kept.some, kept.parts)) place c.in-Some.cell c.index.result.now within c.index.ensures c.in-Some.is kept.stride
+    ∙ (λ i. (
+      sym (key_there local.keys.items g.S.Size.size place c.index-in-Some.result.now local.named
+          (omega (arith, c.loop-cursor-test.true, local.sized)) c.index-in-Some.ensures) i,
+      c.in-Some.cell,
+    )
+    ∷ filter (λ e. e.0 % sym kept.parts i == sym kept.part i)
+    (numbered (place + sym kept.parts i) (drop (place + sym kept.parts i) local.cells.items)))
 
 pub loop-cursor-preserved : goal.loop-cursor-preserved
 loop-cursor-preserved g c =
@@ -42,8 +51,10 @@ loop-cursor-preserved g c =
       part = kept.part;
       parts = kept.parts;
       some = kept.some;
-      stride = ap (λ q. (place + q) % parts) kept.parts ∙ stride_kept parts part cells (omega (arith, kept.some, kept.parts)) place kept.stride;
+      stride =
+          ap (λ q. (place + q) % parts) kept.parts ∙ stride_kept parts part cells (omega (arith, kept.some, kept.parts)) place kept.stride;
       left = kept.left
-          ∙ left_out parts part cells (omega (arith, kept.some, kept.parts)) place c.index.result.now within c.index.ensures c.in_default.is kept.stride
+          ∙ left_out parts part cells
+          (omega (arith, kept.some, kept.parts)) place c.index.result.now within c.index.ensures c.in_default.is kept.stride
           ∙ ap (λ q. filter (λ e. e.0 % parts == part) (numbered (place + q) (drop (place + q) cells))) (sym kept.parts);
     }

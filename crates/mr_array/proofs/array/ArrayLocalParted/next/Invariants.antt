@@ -8,8 +8,10 @@ invariant-loop-cursor g l = record {
   parts : l.cursor.parts ≡ l.initial.cursor.parts;
   some : 1 ≤ l.cursor.parts;
   stride : l.cursor.place % l.initial.cursor.parts ≡ l.initial.cursor.part;
-  left : filter (λ e. e.0 % l.initial.cursor.parts == l.initial.cursor.part) (numbered l.initial.cursor.place (drop l.initial.cursor.place l.self.cells.items))
-      ≡ filter (λ e. e.0 % l.initial.cursor.parts == l.initial.cursor.part) (numbered l.cursor.place (drop l.cursor.place l.self.cells.items));
+  left : filter (λ e. e.0 % l.initial.cursor.parts == l.initial.cursor.part)
+      (numbered l.initial.cursor.place (drop l.initial.cursor.place l.self.cells.items))
+      ≡ filter (λ e. e.0 % l.initial.cursor.parts == l.initial.cursor.part)
+      (numbered l.cursor.place (drop l.cursor.place l.self.cells.items));
 }
 
 abbrev pub decreases-loop-cursor : goal.decreases-loop-cursor

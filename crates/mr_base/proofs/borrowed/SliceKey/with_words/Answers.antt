@@ -4,7 +4,8 @@ use Rattle.mr_base.specs.Keys.{folded, length-folded, list_code, mixed, AreBytes
 use Rattle.mr_base.specs.Leads.{high}
 use Rattle.mr_base.proofs.borrowed.SliceKey.with_words.Goals as goal
 
-is_code : (ks : List ℕ) (first second rest n : ℕ) → first ≡ high 8 ks → second ≡ high 8 (drop 8 ks) → n ≡ length ks → rest ≡ fnv1a_from n (drop 16 ks) → mixed first second rest ≡ list_code ks
+is_code : (ks : List ℕ) (first second rest n : ℕ) → first ≡ high 8 ks → second ≡ high 8 (drop 8 ks) → n ≡ length ks
+    → rest ≡ fnv1a_from n (drop 16 ks) → mixed first second rest ≡ list_code ks
 unfolding list_code
 is_code ks first second rest n p q e f = rw (p, q, f, e) refl
 
@@ -17,6 +18,8 @@ invariant_of-result c =
         is_first = c.requires.first;
         is_second = c.requires.second;
       };
-      is_code = c.mixed.ensures ∙ is_code (folded c.args.fold c.args.bytes.now) c.args.first c.args.second c.rest_of.result (length c.args.bytes.now) c.requires.first c.requires.second (sym size) c.rest_of.ensures;
+      is_code = c.mixed.ensures
+          ∙ is_code (folded c.args.fold c.args.bytes.now) c.args.first c.args.second c.rest_of.result
+          (length c.args.bytes.now) c.requires.first c.requires.second (sym size) c.rest_of.ensures;
       is_len = c.min.ensures ∙ ap (λ n. min n 4294967295) (sym size);
     }

@@ -27,7 +27,8 @@ third_same k l m n s t h = grind (arith, nat_tests)
 pub returns-then-not-words : goal.returns-then-not-words
 returns-then-not-words c =
     words_differ c.self.invariant.words c.other.invariant.words
-    (λ e f g. some_differ _ _ _ _ _ _ c.if-not-words.true e f (both_same c.self.inside.len c.other.inside.len _ _ c.self.invariant.is_len c.other.invariant.is_len g))
+    (λ e f g. some_differ _ _ _ _ _ _ c.if-not-words.true e f
+    (both_same c.self.inside.len c.other.inside.len _ _ c.self.invariant.is_len c.other.invariant.is_len g))
     ∙ seen c.self.view_is c.other.view_is
 
 -- the two words and the length of each
@@ -49,7 +50,8 @@ returns-then-self-le16 c =
     le-leb s.len 16 c.if-self-le16.true
     ∙ words_tie c.self.invariant.words c.other.invariant.words
     (first_tie s.first s.second s.len o.first o.second o.len all) (second_tie s.first s.second s.len o.first o.second o.len all)
-    (short_same s.len o.len _ _ c.self.invariant.is_len c.other.invariant.is_len (third_tie s.first s.second s.len o.first o.second o.len all) c.if-self-le16.true)
+    (short_same s.len o.len _ _ c.self.invariant.is_len c.other.invariant.is_len
+    (third_tie s.first s.second s.len o.first o.second o.len all) c.if-self-le16.true)
     (short s.len _ c.self.invariant.is_len c.if-self-le16.true)
     ∙ seen c.self.view_is c.other.view_is
 
@@ -62,5 +64,6 @@ returns-else-self-le16 c =
     ∙ ap is_eq (c.order_past.ensures ∙ rest_decides c.self.invariant.words c.other.invariant.words
     (first_tie s.first s.second s.len o.first o.second o.len all) (second_tie s.first s.second s.len o.first o.second o.len all)
     (long s.len _ c.self.invariant.is_len (omega (arith, c.if-self-le16.false)))
-    (long o.len _ c.other.invariant.is_len (omega (arith, c.if-self-le16.false, third_tie s.first s.second s.len o.first o.second o.len all))))
+    (long o.len _ c.other.invariant.is_len
+    (omega (arith, c.if-self-le16.false, third_tie s.first s.second s.len o.first o.second o.len all))))
     ∙ seen c.self.view_is c.other.view_is
