@@ -1,5 +1,6 @@
 -- The digits of a line are those of the text that goes on behind it.
-use Rattle.std.proofs.Common.{◌≡◌, ℕ, zero, suc, ◌+◌, ◌-◌, ◌<◌, ◌≤◌, Bool, true, false, not, ◌==◌, if◌then◌else◌, true≢false, List, [], ◌∷◌, length, take, drop, get_or, inl, inr, refl, sym, ap, ◌∙◌, arith}
+use Rattle.std.proofs.Common.{◌≡◌, ℕ, zero, suc, ◌+◌, ◌-◌, ◌<◌, ◌≤◌, Bool, true, false, not, ◌==◌, if◌then◌else◌, true≢false, List, [], ◌∷◌}
+use Rattle.std.proofs.Common.{length, take, drop, get_or, inl, inr, refl, sym, ap, ◌∙◌, arith}
 use Rattle.std.specs.Char.{is_ascii_digit}
 use Rattle.std.specs.List.{prefix_len}
 use Rattle.std.proofs.lemmas.Bool.{cases_lt, eqb-true, not-false}
@@ -33,19 +34,23 @@ module _ (line rest : List ℕ) (h : Continues line rest) (from : ℕ) (inside :
 
   element : (k : ℕ) → from + k < length line → get_or (drop from line) k 0 ≡ get_or (drop from rest) k 0
   element k l =
-      get_or-drop from line k 0 ∙ ap (λ xs. get_or xs (from + k) 0) (sym h.front) ∙ get_or-take (length line) rest (from + k) 0 l ∙ sym (get_or-drop from rest k 0)
+      get_or-drop from line k 0 ∙ ap (λ xs. get_or xs (from + k) 0) (sym h.front) ∙ get_or-take (length line) rest (from + k) 0 l
+      ∙ sym (get_or-drop from rest k 0)
 
   pub same_digits : prefix_len is_ascii_digit (drop from line) ≡ digits
   same_digits =
       prefix_len_is is_ascii_digit (drop from line) digits 0 (omega (arith, within, length-drop from line))
       (λ k l. ap is_ascii_digit (element k (omega (arith, l, within))) ∙ prefix_len_passes is_ascii_digit (drop from rest) k 0 l)
-      (λ l. ap is_ascii_digit (element digits (omega (arith, l, length-drop from line))) ∙ prefix_len_stops is_ascii_digit (drop from rest) 0 (omega (arith, l, length-drop from line, length-drop from rest, h.within)))
+      (λ l. ap is_ascii_digit (element digits (omega (arith, l, length-drop from line)))
+      ∙ prefix_len_stops is_ascii_digit (drop from rest) 0 (omega (arith, l, length-drop from line, length-drop from rest, h.within)))
 
   pub same_run : run_at is_ascii_digit line from ≡ run_at is_ascii_digit rest from
   same_run =
       let size : from + (length line - from) ≡ length line = omega (arith, inside) in
-      let back : drop from line ≡ take (length line - from) (drop from rest) = ap (drop from) (sym h.front ∙ ap (λ n. take n rest) (sym size)) ∙ drop-take from (length line - from) rest in
-      ap (λ n. take n (drop from line)) same_digits ∙ ap (take digits) back ∙ take_front digits (length line - from) (drop from rest) (omega (arith, within))
+      let back : drop from line ≡ take (length line - from) (drop from rest) =
+      ap (drop from) (sym h.front ∙ ap (λ n. take n rest) (sym size)) ∙ drop-take from (length line - from) rest in
+      ap (λ n. take n (drop from line)) same_digits ∙ ap (take digits) back
+      ∙ take_front digits (length line - from) (drop from rest) (omega (arith, within))
 
 -- a line of a text, with the byte 13 at its end or without
 module _ (bytes : List ℕ) (at : ℕ) where
@@ -81,7 +86,8 @@ module _ (bytes : List ℕ) (at : ℕ) where
       shorter : get_or whole (length whole - 1) 0 ≡ 13 → 0 < length whole
       shorter e = elim (cases_lt 0 (length whole)) [
         | inl l ↦ l
-        | inr none ↦ let nothing : get_or whole (length whole - 1) 0 ≡ 0 = get_or_past whole (length whole - 1) 0 (omega (arith, none)) in absurd (omega (arith, e, nothing))
+        | inr none ↦ let nothing : get_or whole (length whole - 1) 0 ≡ 0 = get_or_past whole (length whole - 1) 0 (omega (arith, none)) in
+            absurd (omega (arith, e, nothing))
       ]
 
       by : (t : Bool) → (get_or whole (length whole - 1) 0 == 13) ≡ t → Continues (if t then take (length whole - 1) whole else whole) rest
@@ -95,5 +101,6 @@ module _ (bytes : List ℕ) (at : ℕ) where
           record {
             within = omega (arith, short, most);
             front = ap (λ k. take k rest) short ∙ cut;
-            ends = ap (λ k. is_ascii_digit (get_or rest k 0)) short ∙ ap is_ascii_digit (sym (get_or-take (length whole) rest n 0 (omega (arith, some))) ∙ ap (λ l. get_or l n 0) front ∙ last);
+            ends = ap (λ k. is_ascii_digit (get_or rest k 0)) short
+                ∙ ap is_ascii_digit (sym (get_or-take (length whole) rest n 0 (omega (arith, some))) ∙ ap (λ l. get_or l n 0) front ∙ last);
           }

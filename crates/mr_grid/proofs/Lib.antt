@@ -2,6 +2,7 @@ pub mod Chunks
 pub mod Digits
 pub mod Elements
 pub mod Faults
+pub mod Joined
 pub mod Judged
 pub mod Numerals
 pub mod Places

@@ -1,5 +1,6 @@
 -- A grid turned: its columns, one after the other, are rows of one length.
-use Rattle.std.proofs.Common.{◌≡◌, ◌≤◌, ◌<◌, ◌+◌, ◌*◌, ℕ, zero, suc, ℤ, pos, nat_abs, List, [], ◌∷◌, ◌++◌, length, map, flat_map, get_or, refl, sym, ap, ap₂, ◌∙◌, arith, append-nil, inl, inr, ◌⊎◌}
+use Rattle.std.proofs.Common.{◌≡◌, ◌≤◌, ◌<◌, ◌+◌, ◌*◌, ℕ, zero, suc, ℤ, pos, nat_abs, List, [], ◌∷◌, ◌++◌, length, map, flat_map, get_or}
+use Rattle.std.proofs.Common.{refl, sym, ap, ap₂, ◌∙◌, arith, append-nil, inl, inr, ◌⊎◌}
 use Rattle.std.specs.Fork.{slice_chunk}
 use Rattle.std.specs.List.{All, AllByRecursion, range_with_len}
 use Rattle.std.proofs.lemmas.Bool.{cases_lt}
@@ -34,7 +35,8 @@ each_long f n each (j ∷ js) = (each j, each_long f n each js)
 
 same_below : (f g : ℕ → List ℤ) (a n : ℕ) → ((j : ℕ) → j < a + n → f j ≡ g j) → map f (range_with_len a n) ≡ map g (range_with_len a n)
 same_below f g a zero same = refl
-same_below f g a (suc n) same = ap₂ (λ (x : List ℤ) (xs : List (List ℤ)). x ∷ xs) (same a (omega arith)) (same_below f g (a + 1) n (λ j h. same j (omega (arith, h))))
+same_below f g a (suc n) same =
+    ap₂ (λ (x : List ℤ) (xs : List (List ℤ)). x ∷ xs) (same a (omega arith)) (same_below f g (a + 1) n (λ j h. same j (omega (arith, h))))
 
 same_mapped : (f g : ℕ → ℤ) → ((r : ℕ) → f r ≡ g r) → (rs : List ℕ) → map f rs ≡ map g rs
 same_mapped f g same [] = refl
@@ -59,8 +61,11 @@ module _ (numbers : List ℤ) (columns rows : ℕ) (dense : IsDense numbers colu
 
   pub turned_dense : IsDense turned rows columns
   turned_dense = record {
-    size = length-flat_map-even (column_in numbers columns rows) rows (range_with_len 0 columns) even ∙ ap (λ n. n * rows) (length-range_with_len 0 columns);
-    bounded = all_joined (column_in numbers columns rows) (λ j. all_mapped (λ r. get_or numbers (r * columns + j) (pos 0)) (λ r. bounded (r * columns + j)) (range_with_len 0 rows)) (range_with_len 0 columns);
+    size = length-flat_map-even (column_in numbers columns rows) rows (range_with_len 0 columns) even
+        ∙ ap (λ n. n * rows) (length-range_with_len 0 columns);
+    bounded = all_joined (column_in numbers columns rows)
+        (λ j. all_mapped (λ r. get_or numbers (r * columns + j) (pos 0)) (λ r. bounded (r * columns + j)) (range_with_len 0 rows))
+        (range_with_len 0 columns);
     no_columns = dense.no_rows;
     no_rows = dense.no_columns;
   }
@@ -68,12 +73,14 @@ module _ (numbers : List ℤ) (columns rows : ℕ) (dense : IsDense numbers colu
   -- the numbers at a place of each row are a column of the grid
   column_is : (j : ℕ) → j < columns → column_in numbers columns rows j ≡ column (rows_of numbers columns rows) j
   column_is j h =
-      same_mapped (λ r. get_or numbers (r * columns + j) (pos 0)) (λ r. get_or (slice_chunk numbers columns r) j (pos 0)) (λ r. sym (get_or-chunk (r * columns) columns numbers j (pos 0) h)) (range_with_len 0 rows)
+      same_mapped (λ r. get_or numbers (r * columns + j) (pos 0)) (λ r. get_or (slice_chunk numbers columns r) j (pos 0))
+      (λ r. sym (get_or-chunk (r * columns) columns numbers j (pos 0) h)) (range_with_len 0 rows)
       ∙ sym (map-map (λ row. get_or row j (pos 0)) (slice_chunk numbers columns) (range_with_len 0 rows))
 
   pub turned_is : rows_of turned rows columns ≡ turned_of (rows_of numbers columns rows)
   turned_is =
       ap (rows_of turned rows) (sym (length-range_with_len 0 columns))
       ∙ rows_of-flat_map (column_in numbers columns rows) rows (range_with_len 0 columns) even
-      ∙ same_below (column_in numbers columns rows) (column (rows_of numbers columns rows)) 0 columns (λ j h. column_is j (omega (arith, h)))
+      ∙ same_below (column_in numbers columns rows) (column (rows_of numbers columns rows)) 0 columns
+      (λ j h. column_is j (omega (arith, h)))
       ∙ ap (λ n. map (column (rows_of numbers columns rows)) (range_with_len 0 n)) (sym (columns_is numbers columns rows dense))

@@ -1,5 +1,6 @@
 -- The number of some digits, each of which counts by its weight.
-use Rattle.std.proofs.Common.{◌≡◌, ℕ, zero, suc, ◌+◌, ◌-◌, ◌*◌, ◌^◌, ◌<◌, ◌≤◌, min, true, subst, List, [], ◌∷◌, length, take, get_or, replicate, inl, inr, refl, sym, ap, ap₂, ◌∙◌, arith}
+use Rattle.std.proofs.Common.{◌≡◌, ℕ, zero, suc, ◌+◌, ◌-◌, ◌*◌, ◌^◌, ◌<◌, ◌≤◌, min, true, subst, List, [], ◌∷◌, length, take, get_or}
+use Rattle.std.proofs.Common.{replicate, inl, inr, refl, sym, ap, ap₂, ◌∙◌, arith}
 use Rattle.std.specs.Char.{is_ascii_digit}
 use Rattle.std.specs.List.{prefix_len}
 use Rattle.std.specs.Str.Parse.{AllDigits, digits_value}
@@ -47,7 +48,8 @@ module _ (ds : List ℕ) (n : ℕ) (few : n ≤ 8) (count : n ≡ prefix_len is_
       let most : get_or ds m 0 ≤ 57 = leb-true (get_or ds m 0) 57 (right_true (nat_le 48 (get_or ds m 0)) (nat_le (get_or ds m 0) 57) d) in
       let next : suc m ≡ m + 1 = omega arith in
       subst (λ k. AllDigits 10 (take k ds)) (sym next)
-      (digits_more 10 ds m (omega (arith, h, count, prefix_len-le-length is_ascii_digit ds)) (all_digits m (omega (arith, h))) (omega (arith, digit_is (get_or ds m 0) d, most)))
+      (digits_more 10 ds m (omega (arith, h, count, prefix_len-le-length is_ascii_digit ds)) (all_digits m (omega (arith, h)))
+      (omega (arith, digit_is (get_or ds m 0) d, most)))
 
   pub small : (i : ℕ) → so_far ds n i < 100000000
   small i =
@@ -82,14 +84,17 @@ module _ (ds : List ℕ) (n : ℕ) (few : n ≤ 8) (count : n ≡ prefix_len is_
         let now : min i n ≡ i = omega (arith, l) in
         let next : min (i + 1) n ≡ i + 1 = omega (arith, l) in
         let weight : w ≡ 10 ^ e = is ∙ weight_of_digit (8 - n + i) place ∙ ap (λ k. 10 ^ k) left in
-        let more = digits_value_more 10 ds i (omega (arith, l, count, prefix_len-le-length is_ascii_digit ds)) ∙ ap (λ d. value * 10 + d) (digit_is (get_or ds i 0) (digit i l)) in
+        let more = digits_value_more 10 ds i (omega (arith, l, count, prefix_len-le-length is_ascii_digit ds))
+        ∙ ap (λ d. value * 10 + d) (digit_is (get_or ds i 0) (digit i l)) in
         ap₂ (λ k v. v * 10 ^ e) next (ap (λ k. digits_value 10 (take k ds)) next ∙ more)
         ∙ add-mul (value * 10) (get_or ds i 0 - 48) (10 ^ e)
         ∙ ap₂ (λ a b. a + b)
-        (mul_assoc value 10 (10 ^ e) ∙ ap (λ p. value * p) (sym (ap (λ k. 10 ^ k) power ∙ pow-succ' 10 e)) ∙ ap (λ k. digits_value 10 (take k ds) * 10 ^ (n - i)) (sym now))
+        (mul_assoc value 10 (10 ^ e) ∙ ap (λ p. value * p) (sym (ap (λ k. 10 ^ k) power ∙ pow-succ' 10 e))
+        ∙ ap (λ k. digits_value 10 (take k ds) * 10 ^ (n - i)) (sym now))
         (ap (λ p. (get_or ds i 0 - 48) * p) (sym weight))
     | inr past ↦
-        let none : w ≡ 0 = is ∙ ap (λ k. get_or weights k 0) (let split : 8 - n + i ≡ 8 + (i - n) = omega (arith, few, past) in split) ∙ no_weight (i - n) in
+        let none : w ≡ 0 = is ∙ ap (λ k. get_or weights k 0) (let split : 8 - n + i ≡ 8 + (i - n) = omega (arith, few, past) in split)
+        ∙ no_weight (i - n) in
         let now : min i n ≡ n = omega (arith, past) in
         let next : min (i + 1) n ≡ n = omega (arith, past) in
         let over : n - i ≡ 0 = omega (arith, past) in

@@ -2,6 +2,7 @@
 use Rattle.std.specs.Prelude.{◌≡◌, ◌≤◌, ◌+◌, ◌*◌, ℕ, ℤ, pos, nat_abs, List, length, map, slice_index_or}
 use Rattle.std.specs.Fork.{slice_chunk}
 use Rattle.std.specs.List.{All, range_with_len}
+use Rattle.mr_defs.specs.Limits.{greatest_element}
 use Rattle.mr_items.specs.Grid.{column, columns_of}
 
 -- so many rows of so many numbers each
@@ -10,7 +11,7 @@ rows_of numbers columns rows = map (slice_chunk numbers columns) (range_with_len
 
 pub record IsDense (numbers : List ℤ) (columns rows : ℕ) : Type 0 where
   pub size : length numbers ≡ rows * columns
-  pub bounded : All (λ z. nat_abs z ≤ 2147483647) numbers
+  pub bounded : All (λ z. nat_abs z ≤ greatest_element) numbers
   pub no_columns : rows ≡ 0 → columns ≡ 0
   pub no_rows : columns ≡ 0 → rows ≡ 0
 

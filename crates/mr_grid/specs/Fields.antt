@@ -1,8 +1,10 @@
 -- Fields of a line, from a place on.
-use Rattle.std.specs.Prelude.{◌≡◌, ◌≤◌, ℕ, ◌+◌, ℤ, Bool, false, not, length, take, slice_index_or, is_none, if◌then◌else◌, List, drop, find, filter_map, Option, Some, None}
+use Rattle.std.specs.Prelude.{◌≡◌, ◌≤◌, ℕ, ◌+◌, ℤ, Bool, false, not, length, take, slice_index_or, is_none, if◌then◌else◌, List, drop, find}
+use Rattle.std.specs.Prelude.{filter_map, Option, Some, None}
 use Rattle.std.specs.Char.{is_ascii_digit}
 use Rattle.std.specs.Str.Parse.{digits_value}
 use Rattle.std.specs.List.{prefix_len}
+use Rattle.mr_defs.specs.Limits.{greatest_element}
 use Rattle.mr_items.specs.Grid.{element_of}
 use Rattle.mr_items.specs.Lines.{is_field_byte}
 use Rattle.mr_items.specs.Number.{is_numeral_up_to}
@@ -18,7 +20,7 @@ run_end_in of_field line from = from + prefix_len (stays of_field) (drop from li
 
 -- the number of some digits and nothing else, where it is at most 2147483647
 abbrev pub numeral_of : List ℕ → Option ℕ
-numeral_of text = if is_numeral_up_to 2147483647 text then Some (digits_value 10 text) else None
+numeral_of text = if is_numeral_up_to greatest_element text then Some (digits_value 10 text) else None
 
 -- the first field that is no element, of a line whose byte 13 was dropped
 abbrev pub stray_of : List ℕ → Option ℕ

@@ -17,7 +17,8 @@ pixel_tests bytes = drop 6 (bitmap_tests bytes)
 
 -- the pixels of these bytes, unless there is a fault
 abbrev pub bitmap_unless : Option BitmapFault → List ℕ → Result Bitmap BitmapFault
-bitmap_unless fault bytes = option_map_or Err fault (Ok (record { place = place_of bytes; width = pixels_in_row bytes; rows = pixel_rows bytes; stride = stride_of bytes }))
+bitmap_unless fault bytes = option_map_or Err fault
+    (Ok (record { place = place_of bytes; width = pixels_in_row bytes; rows = pixel_rows bytes; stride = stride_of bytes }))
 
 abbrev pub bitmap_of : List ℕ → Result Bitmap BitmapFault
 bitmap_of bytes = bitmap_unless (bitmap_fault_of bytes) bytes

@@ -5,8 +5,8 @@ ghost use Rattle.mr_grid.specs.Pixels.{bitmap_of, bitmap_unless, first_fault, fo
 use byteorder::{ByteOrder, LittleEndian};
 use mr_items::BitmapFault;
 
-/// The pixels of a bitmap in its bytes: the place of the first one, the pixels in a row, the rows, and the bytes of a row, which are 3 times the
-/// pixels raised to a multiple of 4. A pixel is the three bytes blue, green and red.
+/// The pixels of a bitmap in its bytes: the place of the first one, the pixels in a row, the rows, and the bytes of a row, which are 3
+/// times the pixels raised to a multiple of 4. A pixel is the three bytes blue, green and red.
 #[derive(Clone, Copy, Debug, PartialEq, Eq)]
 pub struct Bitmap {
     pub place: usize,
@@ -94,8 +94,8 @@ fn read_pixels(bytes: &[u8]) -> Result<Bitmap, BitmapFault>
     })
 }
 
-/// Where the pixels of a bitmap stand, or its first fault in the order of `BitmapFault`. The format is that of the 24-bit uncompressed Windows
-/// bitmap with a header of 40 bytes, whose numbers are little-endian; a negative height says that the top row comes first, and the
+/// Where the pixels of a bitmap stand, or its first fault in the order of `BitmapFault`. The format is that of the 24-bit uncompressed
+/// Windows bitmap with a header of 40 bytes, whose numbers are little-endian; a negative height says that the top row comes first, and the
 /// rows are its magnitude. All other header fields and the bytes after the pixels are passed over.
 pub fn read_bitmap(bytes: &[u8]) -> Result<Bitmap, BitmapFault>
     ensures bitmap { result ≡ bitmap_of bytes.now }

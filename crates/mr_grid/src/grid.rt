@@ -1,6 +1,7 @@
 ghost use Rattle.std.specs.Prelude.{◌≡◌, ◌≤◌, ◌<◌, ◌+◌, ◌*◌, ◌^◌, ◌++◌, nat_abs, length, slice_get, flat_map, Some, All, IfOk, OnOk};
 ghost use Rattle.std.specs.Fork.{slice_chunk};
 ghost use Rattle.std.specs.List.{range_with_len};
+ghost use Rattle.mr_defs.specs.Limits.{greatest_element};
 ghost use Rattle.mr_items.specs.Grid.{columns_of};
 ghost use Rattle.mr_grid.specs.Dense.{rows_of, column_in, turned_of, IsDense};
 
@@ -102,7 +103,7 @@ impl Grid {
         requires { r < length self.now }
         ensures row { slice_get self.now r ≡ Some result.now }
         ensures length { length result.now ≡ columns_of self.now }
-        ensures bounded { All (λ z. nat_abs z ≤ 2147483647) result.now }
+        ensures bounded { All (λ z. nat_abs z ≤ greatest_element) result.now }
     {
         row_at(&self.numbers, r as usize, self.columns as usize)
     }

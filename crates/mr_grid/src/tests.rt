@@ -1,4 +1,4 @@
-use crate::{Bitmap, BitmapFault, Grid, GridFault, read_bitmap, read_grid};
+use crate::{Bitmap, BitmapFault, Grid, GridFault, read_bitmap, read_grid, read_grid_by};
 use mr_base::Stop;
 use std::alloc::{AllocError, Global};
 use std::test::Fail;
@@ -91,6 +91,60 @@ fn the_widest_line(rt: HostRuntime) -> Result<(), Fail> {
     let mut below = Vec::from_slice(alloc, b"1\n")?;
     below.extend_from_slice(text.as_slice())?;
     assert_eq!(rt; fault_in(alloc, below.as_slice()), Some(GridFault::Wide(2)));
+    Ok(())
+}
+
+// Lines of which some in the middle and the last one are others.
+fn twice_broken(alloc: Global, line: &[u8], other: &[u8]) -> Result<Vec<u8>, AllocError> {
+    let mut text = Vec::new(alloc);
+    for i in 0..8000u32 {
+        if i % 3000 == 2999 {
+            text.extend_from_slice(other)?;
+        }
+        text.extend_from_slice(line)?;
+    }
+    text.extend_from_slice(other)?;
+    Ok(text)
+}
+
+fn same_grids(one: &Grid, other: &Grid) -> bool {
+    let mut same = one.rows() == other.rows() && one.columns() == other.columns();
+    for r in 0..one.rows().min(other.rows()) {
+        same = same && one.row(r) == other.row(r);
+    }
+    same
+}
+
+#[test]
+fn grids_by_several_workers(rt: HostRuntime) -> Result<(), Fail> {
+    let alloc = rt.alloc();
+    let cases: [(&[u8], &[u8]); 9] = [
+        (b"-7 12\n", b"5 6"),
+        (b"-7 12\n", b"\n"),
+        (b"1 2\r\n\n", b"5 x\n"),
+        (b"1 2\r\n\n", b"\r\n5 6\r"),
+        (b" \t\n\n\n", b"5 6\r\n"),
+        (b" \t\n\n\n", b""),
+        (b"30 4\n", b"5\n"),
+        (b"3\r\n\r\n", b"5 6 7\n"),
+        (b"", b"8 9\n"),
+    ];
+    for (line, other) in cases {
+        let text = twice_broken(alloc, line, other)?;
+        let one = read_grid(alloc, &text);
+        for workers in [0u32, 1, 2, 3, 4, 32] {
+            match (&one, read_grid_by(&rt, alloc, workers, &text)) {
+                (Ok(one), Ok(all)) => assert!(rt;
+                    same_grids(one, &all),
+                    "{line:?} {other:?} {workers}"
+                ),
+                (Err(Stop::Refused(one)), Err(Stop::Refused(all))) => {
+                    assert_eq!(rt; all, *one, "{line:?} {other:?} {workers}")
+                }
+                _ => assert!(rt; false, "{line:?} {other:?} {workers}"),
+            }
+        }
+    }
     Ok(())
 }
 

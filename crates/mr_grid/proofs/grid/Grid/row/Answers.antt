@@ -25,6 +25,7 @@ returns-clause-length c =
     let g = c.self.inside in
     let inside : c.args.r < g.rows = omega (arith, length-rows_of g.numbers.items g.columns g.rows, ap length c.self.view_is, c.requires) in
     ap length (c.row_at.ensures ∙ ap (λ numbers. slice_chunk numbers g.columns c.args.r) c.deref.ensures.value)
-    ∙ length-chunk (c.args.r * g.columns) g.columns g.numbers.items (row_within g.numbers.items g.columns g.rows c.args.r inside c.self.invariant.size)
+    ∙ length-chunk (c.args.r * g.columns) g.columns g.numbers.items
+    (row_within g.numbers.items g.columns g.rows c.args.r inside c.self.invariant.size)
     ∙ sym (columns_is g.numbers.items g.columns g.rows c.self.invariant)
     ∙ ap columns_of c.self.view_is

@@ -14,11 +14,14 @@ overflow_cast-self-inside-3 c =
 pub of_numbers-requires : goal.of_numbers-requires
 of_numbers-requires c =
     let g = c.self.inside in
-    let numbers = c.in_ok-numbers.ensures ∙ ap (λ xs. flat_map (column_in xs g.columns g.rows) (range_with_len 0 g.columns)) c.deref.ensures.value in
+    let numbers =
+    c.in_ok-numbers.ensures ∙ ap (λ xs. flat_map (column_in xs g.columns g.rows) (range_with_len 0 g.columns)) c.deref.ensures.value in
     subst (λ xs. IsDense xs g.rows g.columns) (sym numbers) (turned_dense g.numbers.items g.columns g.rows c.self.invariant)
 
 pub returns : goal.returns
 returns c =
     let g = c.self.inside in
-    let numbers = c.in_ok-numbers.ensures ∙ ap (λ xs. flat_map (column_in xs g.columns g.rows) (range_with_len 0 g.columns)) c.deref.ensures.value in
-    c.of_numbers.ensures ∙ ap (λ xs. rows_of xs g.rows g.columns) numbers ∙ turned_is g.numbers.items g.columns g.rows c.self.invariant ∙ ap turned_of c.self.view_is
+    let numbers =
+    c.in_ok-numbers.ensures ∙ ap (λ xs. flat_map (column_in xs g.columns g.rows) (range_with_len 0 g.columns)) c.deref.ensures.value in
+    c.of_numbers.ensures ∙ ap (λ xs. rows_of xs g.rows g.columns) numbers ∙ turned_is g.numbers.items g.columns g.rows c.self.invariant
+    ∙ ap turned_of c.self.view_is
