@@ -1,5 +1,6 @@
 -- The rows of a round over the points of a grid: each has one or more points, and sums that so many can have.
-use Rattle.std.proofs.Common.{inl, inr, ◌≡◌, ◌≤◌, ◌+◌, ◌*◌, ℕ, zero, suc, ℤ, pos, nat_abs, Bool, true, false, cond, List, [], ◌∷◌, length, map, max, Option, Some, None, refl, ap, ◌∙◌, arith}
+use Rattle.std.proofs.Common.{inl, inr, ◌≡◌, ◌≤◌, ◌+◌, ◌*◌, ℕ, zero, suc, ℤ, pos, nat_abs, Bool, true, false, cond, List, [], ◌∷◌, length}
+use Rattle.std.proofs.Common.{map, max, Option, Some, None, refl, ap, ◌∙◌, arith}
 use Rattle.std.specs.Prelude.{nat_le, get_or, flat_map, fold, option_map, IfSome, ◌&&◌}
 use Rattle.std.specs.BTreeSet.{insert_key}
 use Rattle.std.specs.Cmp.{unsigned_tied}
@@ -17,6 +18,7 @@ use Rattle.std.proofs.lemmas.List.Sums.{sum_by-le}
 use Rattle.mr_defs.specs.Emission.{Emission, Pair, TooLarge, Malformed, Row}
 use Rattle.mr_defs.specs.Folded.{limit, magnitude, total, coordinates, dimension, vecsum_folded}
 use Rattle.mr_defs.specs.Keyed.{at, ascending, keys_inside, pair_key, value_at}
+use Rattle.mr_defs.specs.Limits.{greatest_element}
 use Rattle.mr_defs.specs.Rows.{rows_of}
 use Rattle.mr_items.specs.Grid.{columns_of}
 use Rattle.mr_items.specs.KMeans.{Point, kmeans_emits, kmeans_emissions, nearest}
@@ -84,7 +86,7 @@ given_all P Q f h (x ∷ xs) all =
 -- points of so many coordinates of a grid
 module _ (c : ℕ) where
   abbrev Fits : Point → Type 0
-  Fits p = (length p ≡ c) × All (λ z. nat_abs z ≤ 2147483647) p
+  Fits p = (length p ≡ c) × All (λ z. nat_abs z ≤ greatest_element) p
 
   no_longer : (points : List Point) → All Fits points → fold (λ n p. max n (length p)) c points ≡ c
   no_longer [] fit = refl
@@ -98,20 +100,21 @@ module _ (c : ℕ) where
       let first : max 0 (length p) ≡ c = omega (arith, (All-head Fits p ps fit).0) in
       ap (λ n. fold (λ n p. max n (length p)) n ps) first ∙ no_longer ps (All-tail Fits p ps fit)
 
-  coordinate_small : (j : ℕ) (p : Point) → Fits p → nat_abs (get_or p j (pos 0)) ≤ 2147483647
+  coordinate_small : (j : ℕ) (p : Point) → Fits p → nat_abs (get_or p j (pos 0)) ≤ greatest_element
   coordinate_small j p fit = elim (cases_lt j (length p)) [
-    | inl there ↦ All-get_or (λ z. nat_abs z ≤ 2147483647) p j (pos 0) there fit.1
+    | inl there ↦ All-get_or (λ z. nat_abs z ≤ greatest_element) p j (pos 0) there fit.1
     | inr past ↦ omega (arith, ap nat_abs (get_or_past p j (pos 0) past))
   ]
 
-  total_small : (points : List Point) → All Fits points → (j : ℕ) → nat_abs (total (coordinates points j)) ≤ 2147483647 * length points
+  total_small : (points : List Point) → All Fits points → (j : ℕ)
+      → nat_abs (total (coordinates points j)) ≤ greatest_element * length points
   total_small points fit j =
-      let each = All-map (λ z. nat_abs z ≤ 2147483647) (λ p. get_or p j (pos 0)) points
-      (All-weaker Fits (λ p. nat_abs (get_or p j (pos 0)) ≤ 2147483647) (coordinate_small j) points fit) in
+      let each = All-map (λ z. nat_abs z ≤ greatest_element) (λ p. get_or p j (pos 0)) points
+      (All-weaker Fits (λ p. nat_abs (get_or p j (pos 0)) ≤ greatest_element) (coordinate_small j) points fit) in
       omega (
         arith,
         sum_small (pos 0) (coordinates points j),
-        sum_by-le nat_abs 2147483647 (coordinates points j) each,
+        sum_by-le nat_abs greatest_element (coordinates points j) each,
         length-map points (λ p. get_or p j (pos 0)),
       )
 
@@ -126,9 +129,9 @@ module _ (c : ℕ) where
       sums : List ℤ
       sums = map (λ j. total (coordinates points j)) places
 
-      all_small : (js : List ℕ) → All (λ z. nat_abs z ≤ 2147483647 * length points) (map (λ j. total (coordinates points j)) js)
-      all_small [] = All-nil (λ z. nat_abs z ≤ 2147483647 * length points)
-      all_small (j ∷ js) = All-cons (λ z. nat_abs z ≤ 2147483647 * length points) (total (coordinates points j))
+      all_small : (js : List ℕ) → All (λ z. nat_abs z ≤ greatest_element * length points) (map (λ j. total (coordinates points j)) js)
+      all_small [] = All-nil (λ z. nat_abs z ≤ greatest_element * length points)
+      all_small (j ∷ js) = All-cons (λ z. nat_abs z ≤ greatest_element * length points) (total (coordinates points j))
           (map (λ j. total (coordinates points j)) js) (total_small points fit j) (all_small js)
 
       by : (b : Bool) → IfSome (option_map (λ a. (k, a)) (cond b (Some (pos (length points) ∷ sums)) None)) (IsCluster c)
@@ -139,7 +142,7 @@ module _ (c : ℕ) where
           length-map-range_with_len (λ j. total (coordinates points j)) 0 (dimension points),
           dimension_is points some fit,
         );
-        small = All-cons (λ z. nat_abs z ≤ 2147483647 * length points) (pos (length points)) sums (omega arith) (all_small places);
+        small = All-cons (λ z. nat_abs z ≤ greatest_element * length points) (pos (length points)) sums (omega arith) (all_small places);
       }
       by false = tt
 

@@ -1,5 +1,6 @@
 -- Distances, coordinate by coordinate.
-use Rattle.std.proofs.Common.{◌≡◌, ◌≤◌, ◌<◌, ◌+◌, ◌*◌, ℕ, ℤ, pos, ◌-ℤ◌, nat_abs, List, length, get_or, take, zip, ap, ◌∙◌, arith, w32, to_z, of_z}
+use Rattle.std.proofs.Common.{◌≡◌, ◌≤◌, ◌<◌, ◌+◌, ◌*◌, ℕ, ℤ, pos, ◌-ℤ◌, nat_abs, List, length, get_or, take, zip, ap, ◌∙◌, arith, w32, to_z}
+use Rattle.std.proofs.Common.{of_z}
 use Rattle.std.specs.Prelude.{sum_by}
 use Rattle.std.proofs.lemmas.List.{take_all}
 use Rattle.std.proofs.lemmas.List.Sums.{sum_by_more}

@@ -1,4 +1,5 @@
 mod Emitted
+mod Blocks
 mod Pixels
 mod Products
 mod Lines

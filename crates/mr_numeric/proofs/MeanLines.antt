@@ -1,5 +1,6 @@
 -- The lines of means and of couples of columns, one after the other.
-use Rattle.std.proofs.Common.{◌≡◌, ◌≤◌, ◌<◌, ◌+◌, ◌-◌, ◌*◌, ℕ, ℤ, pos, List, [], ◌∷◌, ◌++◌, length, get_or, map, sym, ap, ◌∙◌, append_assoc, arith}
+use Rattle.std.proofs.Common.{◌≡◌, ◌≤◌, ◌<◌, ◌+◌, ◌-◌, ◌*◌, ℕ, ℤ, pos, List, [], ◌∷◌, ◌++◌, length, get_or, map, sym, ap, ◌∙◌, append_assoc}
+use Rattle.std.proofs.Common.{arith}
 use Rattle.std.specs.Prelude.{flat_map, codes, decimal}
 use Rattle.std.specs.List.{enumerate_from, range_with_len}
 use Rattle.std.proofs.lemmas.List.FromFn.{get_or-enumerate_from, length-enumerate_from}
@@ -18,27 +19,34 @@ abbrev pub mean_at : List ℤ → ℕ → List ℕ
 mean_at means j = mean_line (get_or (enumerate_from 0 means) j (0, pos 0))
 
 pub mean_here : (means : List ℤ) (j : ℕ) → j < length means → mean_line (j, get_or means j (pos 0)) ≡ mean_at means j
-mean_here means j below = let same : 0 + j ≡ j = omega arith in ap mean_line (sym (get_or-enumerate_from 0 means j (0, pos 0) below ∙ ap (λ k. (k, get_or means j (pos 0))) same))
+mean_here means j below = let same : 0 + j ≡ j = omega arith in
+    ap mean_line (sym (get_or-enumerate_from 0 means j (0, pos 0) below ∙ ap (λ k. (k, get_or means j (pos 0))) same))
 
 pub all_means : (means : List ℤ) → emitted (mean_at means) 0 (length means) ≡ flat_map mean_line (enumerate_from 0 means)
 all_means means =
     let all : length means - 0 ≡ length (enumerate_from 0 means) = omega (arith, length-enumerate_from 0 means) in
     ap (λ n. flat_map (mean_at means) (range_with_len 0 n)) all ∙ flat_map-numbered mean_line (enumerate_from 0 means) (0, pos 0)
 
-couple_same : (points i j : ℕ) (sum : ℤ) → line (codes "cov " ++ (decimal i ++ (32 ∷ decimal j ++ (32 ∷ fraction sum (pos (points - 1)))))) ≡ couple_text points i j sum
+couple_same : (points i j : ℕ) (sum : ℤ)
+    → line (codes "cov " ++ (decimal i ++ (32 ∷ decimal j ++ (32 ∷ fraction sum (pos (points - 1)))))) ≡ couple_text points i j sum
 couple_same points i j sum =
     let below = fraction sum (pos (points - 1)) in
-    ap (λ l. line (codes "cov " ++ l)) (sym (append_assoc (decimal i) (32 ∷ decimal j ++ 32 ∷ []) below ∙ ap (λ l. decimal i ++ 32 ∷ l) (append_assoc (decimal j) (32 ∷ []) below)))
+    ap (λ l. line (codes "cov " ++ l))
+    (sym (append_assoc (decimal i) (32 ∷ decimal j ++ 32 ∷ []) below
+    ∙ ap (λ l. decimal i ++ 32 ∷ l) (append_assoc (decimal j) (32 ∷ []) below)))
 
 -- the lines of all couples are those of each column
-pub all_couples : (points c : ℕ) (rows : List (Row ℕ)) → flat_map (couple_line points c rows) (column_couples c) ≡ flat_map (column_lines points c (number_at rows)) (range_with_len 0 c)
+pub all_couples : (points c : ℕ) (rows : List (Row ℕ))
+    → flat_map (couple_line points c rows) (column_couples c) ≡ flat_map (column_lines points c (number_at rows)) (range_with_len 0 c)
 all_couples points c rows =
     flat_map-flat_map (couple_line points c rows) (λ i. map (λ j. (i, j)) (range_with_len i (c - i))) (range_with_len 0 c)
     ∙ (λ k. flat_map (λ i. flat_map-map (couple_line points c rows) (λ j. (i, j)) (range_with_len i (c - i)) k) (range_with_len 0 c))
-    ∙ (λ k. flat_map (λ i. flat_map (λ j. couple_same points i j (number_at rows (i * c + j)) k) (range_with_len i (c - i))) (range_with_len 0 c))
+    ∙ (λ k. flat_map (λ i. flat_map (λ j. couple_same points i j (number_at rows (i * c + j)) k) (range_with_len i (c - i)))
+    (range_with_len 0 c))
 
 pub key_below : (i j c : ℕ) → i < c → j < c → i * c + j < c * c
-key_below i j c row column = let most : (i + 1) * c ≤ c * c = mul-le (i + 1) c c c (omega (arith, row)) (omega arith) in omega (arith, most, column)
+key_below i j c row column = let most : (i + 1) * c ≤ c * c = mul-le (i + 1) c c c (omega (arith, row)) (omega arith) in
+    omega (arith, most, column)
 
 -- the lines of sums that are the same at each key
 pub lines_same : (points c : ℕ) (f g : ℕ → ℤ) → ((k : ℕ) → k < c * c → f k ≡ g k)

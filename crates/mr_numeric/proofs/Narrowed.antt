@@ -14,7 +14,8 @@ module _ (s x y : ℤ) (i : ℕ) (left : nat_abs x ≤ 1448) (right : nat_abs y 
   size = omega (arith, unsigned_abs-mul x y, mul-le (nat_abs x) (nat_abs y) 1448 1448 left right)
 
   product : to_z w32 (of_z w32 (to_z w32 (of_z w32 x) *ℤ to_z w32 (of_z w32 y))) ≡ x *ℤ y
-  product = ap (λ z. to_z w32 (of_z w32 z)) (ap₂ (λ a b. a *ℤ b) (kept x (omega (arith, left))) (kept y (omega (arith, right)))) ∙ kept (x *ℤ y) (omega (arith, size))
+  product = ap (λ z. to_z w32 (of_z w32 z)) (ap₂ (λ a b. a *ℤ b) (kept x (omega (arith, left))) (kept y (omega (arith, right))))
+      ∙ kept (x *ℤ y) (omega (arith, size))
 
   pub product_fits : FitsSigned w32 (to_z w32 (of_z w32 x) *ℤ to_z w32 (of_z w32 y))
   product_fits =

@@ -1,5 +1,6 @@
 -- The means of the next round.
-use Rattle.std.proofs.Common.{◌≡◌, ◌≤◌, ◌+◌, ◌*◌, ℕ, pos, ◌≤ℤ◌, nat_abs, List, [], ◌∷◌, length, get_or, map, drop, Option, Some, None, refl, ◌∙◌, arith}
+use Rattle.std.proofs.Common.{◌≡◌, ◌≤◌, ◌+◌, ◌*◌, ℕ, pos, ◌≤ℤ◌, nat_abs, List, [], ◌∷◌, length, get_or, map, drop, Option, Some, None, refl}
+use Rattle.std.proofs.Common.{◌∙◌, arith}
 use Rattle.std.specs.Prelude.{find, ◌==◌}
 use Rattle.std.specs.Option.{option_map_or}
 use Rattle.std.specs.List.{All, enumerate_from}
@@ -7,6 +8,7 @@ use Rattle.std.proofs.lemmas.Int.{ints}
 use Rattle.std.proofs.lemmas.List.{length-map}
 use Rattle.std.proofs.lemmas.List.Elements.{All-cons, All-head, All-tail, All-nil, All-map, All-weaker}
 use Rattle.mr_defs.specs.Emission.{Answer, Row}
+use Rattle.mr_defs.specs.Limits.{greatest_element}
 use Rattle.mr_items.specs.KMeans.{Point, floor_div, mean_of, next_means}
 use Rattle.mr_items.specs.Texts.{answer_at}
 use Rattle.mr_numeric.specs.Sums.{AreMeans, IsCluster}
@@ -21,7 +23,7 @@ mean_of_some old (count ∷ sums) some = refl
 
 -- a mean of so many coordinates, each of 32 bits
 abbrev Fits : ℕ → Point → Type 0
-Fits c m = (length m ≡ c) × All (λ z. nat_abs z ≤ 2147483647) m
+Fits c m = (length m ≡ c) × All (λ z. nat_abs z ≤ greatest_element) m
 
 module _ (c : ℕ) (rows : List (Row ℕ)) (are : All (IsCluster c) rows) where
   answer_fits : (old : Point) (key : ℕ) (a : Answer) → IsCluster c (key, a) → Fits c (mean_of old a)
@@ -29,10 +31,10 @@ module _ (c : ℕ) (rows : List (Row ℕ)) (are : All (IsCluster c) rows) where
   answer_fits old key (count ∷ sums) is =
       let long = is.long in (
         (length-map sums (λ sum. floor_div sum count) ∙ omega (arith, long)),
-        All-map (λ z. nat_abs z ≤ 2147483647) (λ sum. floor_div sum count) sums
-            (All-weaker (λ z. nat_abs z ≤ 2147483647 * nat_abs count) (λ z. nat_abs (floor_div z count) ≤ 2147483647)
+        All-map (λ z. nat_abs z ≤ greatest_element) (λ sum. floor_div sum count) sums
+            (All-weaker (λ z. nat_abs z ≤ greatest_element * nat_abs count) (λ z. nat_abs (floor_div z count) ≤ greatest_element)
             (λ z small. quotient_small z count is.some small) sums
-            (All-tail (λ z. nat_abs z ≤ 2147483647 * nat_abs count) count sums is.small)),
+            (All-tail (λ z. nat_abs z ≤ greatest_element * nat_abs count) count sums is.small)),
       )
 
   mean_fits : (old : Point) (k : ℕ) → Fits c old → Fits c (mean_of old (answer_at rows k))

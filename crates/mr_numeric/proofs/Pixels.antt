@@ -1,5 +1,6 @@
 -- What a bitmap that was read says of its bytes.
-use Rattle.std.proofs.Common.{◌≡◌, ℕ, ◌+◌, ◌*◌, ◌<◌, ◌≤◌, Bool, true, false, cond, List, [], ◌∷◌, length, Option, Some, None, Ok, Err, refl, sym, ap, ◌∙◌, arith}
+use Rattle.std.proofs.Common.{◌≡◌, ℕ, ◌+◌, ◌*◌, ◌<◌, ◌≤◌, Bool, true, false, cond, List, [], ◌∷◌, length, Option, Some, None, Ok, Err, refl}
+use Rattle.std.proofs.Common.{sym, ap, ◌∙◌, arith}
 use Rattle.std.proofs.Math.Nat.{mul-le-mul_right}
 use Rattle.std.specs.Prelude.{find, option_map, Result}
 use Rattle.std.specs.List.{AllByRecursion}
@@ -11,11 +12,13 @@ use Rattle.mr_grid.specs.Pixels.{bitmap_of}
 use Rattle.mr_grid.specs.declared.bitmap.Bitmap.{Bitmap}
 
 -- where no test is found that holds, none does
-none_holds : (tests : List (Bool × BitmapFault)) → option_map (λ t. t.1) (find (λ t. t.0) tests) ≡ None → AllByRecursion (λ t. t.0 ≡ false) tests
+none_holds : (tests : List (Bool × BitmapFault)) → option_map (λ t. t.1) (find (λ t. t.0) tests) ≡ None
+    → AllByRecursion (λ t. t.0 ≡ false) tests
 none_holds [] e = tt
 none_holds (t ∷ ts) e = by t.0 refl e (λ k. none_holds ts k)
   where
-    by : (b : Bool) → t.0 ≡ b → option_map (λ t. t.1) (cond b (Some t) (find (λ t. t.0) ts)) ≡ None → (option_map (λ t. t.1) (find (λ t. t.0) ts) ≡ None → AllByRecursion (λ t. t.0 ≡ false) ts)
+    by : (b : Bool) → t.0 ≡ b → option_map (λ t. t.1) (cond b (Some t) (find (λ t. t.0) ts)) ≡ None
+        → (option_map (λ t. t.1) (find (λ t. t.0) ts) ≡ None → AllByRecursion (λ t. t.0 ≡ false) ts)
         → (t.0 ≡ false) × AllByRecursion (λ t. t.0 ≡ false) ts
     by true is k rest = absurd (cc)
     by false is k rest = (is, rest k)
@@ -50,9 +53,11 @@ is_bitmap bytes b e = by (bitmap_fault_of bytes) refl e
         }
 
 -- a row lies in the bytes, and its pixels in it
-pub row_bytes : (bytes : List ℕ) (b : Bitmap) → IsBitmapOf bytes b → (row : ℕ) → row < pixel_rows bytes → b.place + row * b.stride + b.stride ≤ length bytes
+pub row_bytes : (bytes : List ℕ) (b : Bitmap) → IsBitmapOf bytes b → (row : ℕ) → row < pixel_rows bytes
+    → b.place + row * b.stride + b.stride ≤ length bytes
 row_bytes bytes b is row below =
-    let last : (row + 1) * stride_of bytes ≤ pixel_rows bytes * stride_of bytes = mul-le-mul_right (stride_of bytes) (omega (arith, below)) in
+    let last : (row + 1) * stride_of bytes ≤ pixel_rows bytes * stride_of bytes =
+    mul-le-mul_right (stride_of bytes) (omega (arith, below)) in
     let turned : stride_of bytes * pixel_rows bytes ≡ pixel_rows bytes * stride_of bytes = omega arith in
     let more : (row + 1) * stride_of bytes ≡ row * stride_of bytes + stride_of bytes = omega arith in
     let here : row * b.stride ≡ row * stride_of bytes = ap (λ n. row * n) is.stride in

@@ -1,18 +1,20 @@
 -- Numbers within the limit, and products of numbers whose magnitudes are at most 2147483647.
-use Rattle.std.proofs.Common.{◌≡◌, ◌≤◌, ◌+◌, ◌*◌, ℤ, ◌-ℤ◌, ◌*ℤ◌, nat_abs, ap₂, ◌∙◌, arith, w64, to_z, of_z}
+use Rattle.std.proofs.Common.{◌≡◌, ◌≤◌, ◌+◌, ◌*◌, ℤ, ◌-ℤ◌, ◌*ℤ◌, nat_abs, ap, ap₂, ◌∙◌, arith, w32, w64, to_z, of_z}
 use Rattle.std.specs.Int.{w128}
 use Rattle.std.specs.Int.RustNames.{FitsSigned}
 use Rattle.std.proofs.lemmas.Int.{ints, to_z-of_z, unsigned_abs-mul, fits_signed_from_abs}
 use Rattle.std.proofs.lemmas.Nat.{mul-le}
 use Rattle.mr_defs.specs.Folded.{limit}
+use Rattle.mr_defs.specs.Limits.{greatest_element}
+use Rattle.mr_numeric.proofs.Quotients.{narrow_is}
 
 -- a number within the limit is kept in 64 bits
 pub kept : (x : ℤ) → nat_abs x ≤ limit → to_z w64 (of_z w64 x) ≡ x
 kept x small = to_z-of_z w64 x (fits_signed_from_abs w64 x (omega (arith, small)))
 
-module _ (x y : ℤ) (left : nat_abs x ≤ 2147483647) (right : nat_abs y ≤ 2147483647) where
+module _ (x y : ℤ) (left : nat_abs x ≤ greatest_element) (right : nat_abs y ≤ greatest_element) where
   pub product_small : nat_abs (x *ℤ y) ≤ limit
-  product_small = omega (arith, unsigned_abs-mul x y, mul-le (nat_abs x) (nat_abs y) 2147483647 2147483647 left right)
+  product_small = omega (arith, unsigned_abs-mul x y, mul-le (nat_abs x) (nat_abs y) greatest_element greatest_element left right)
 
   pub product_is : to_z w64 (of_z w64 (to_z w64 (of_z w64 x) *ℤ to_z w64 (of_z w64 y))) ≡ x *ℤ y
   product_is =
@@ -28,6 +30,18 @@ kept_wide z small = to_z-of_z w128 z (fits_signed_from_abs w128 z (omega (arith,
 
 abs_sub : (a b : ℤ) → nat_abs (a -ℤ b) ≤ nat_abs a + nat_abs b
 abs_sub a b = grind (arith, ints)
+
+-- a number less a wider one, both small
+module _ (x y : ℤ) (left : nat_abs x ≤ greatest_element) (right : nat_abs y ≤ greatest_element) where
+  pub apart_small : nat_abs (x -ℤ y) ≤ 4294967294
+  apart_small = omega (arith, abs_sub x y, left, right)
+
+  pub apart_is : to_z w64 (of_z w64 (to_z w64 (of_z w64 (to_z w32 (of_z w32 x))) -ℤ to_z w64 (of_z w64 (held y)))) ≡ x -ℤ y
+  apart_is =
+      ap₂ (λ a b. to_z w64 (of_z w64 (a -ℤ b)))
+      (ap (λ z. to_z w64 (of_z w64 z)) (narrow_is x left) ∙ kept x (omega (arith, left)))
+      (ap (λ z. to_z w64 (of_z w64 z)) (kept_wide y (omega (arith, right))) ∙ kept y (omega (arith, right)))
+      ∙ kept (x -ℤ y) (omega (arith, apart_small))
 
 module _ (a b : ℤ) (left : nat_abs a ≤ limit) (right : nat_abs b ≤ limit) where
   wide_small : nat_abs (a *ℤ b) ≤ limit * limit

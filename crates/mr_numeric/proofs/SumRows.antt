@@ -31,4 +31,5 @@ row_is_sum k vs = by (nat_le (magnitude vs) limit) refl
 
 -- the rows of sums that aren't over
 pub are_sums : (inside : ℕ → Bool) (es : List (Emission ℕ ℤ)) → AreSums (rows_of nat_cmp inside sum_folded es)
-are_sums inside es = all_given IsSum (λ k. option_map (λ a. (k, a)) (sum_folded (at nat_cmp es k))) (λ k. row_is_sum k (at nat_cmp es k)) (keys_inside nat_cmp inside es)
+are_sums inside es = all_given IsSum (λ k. option_map (λ a. (k, a)) (sum_folded (at nat_cmp es k))) (λ k. row_is_sum k (at nat_cmp es k))
+    (keys_inside nat_cmp inside es)

@@ -1,3 +1,4 @@
+pub mod Blocks
 pub mod Pairs
 pub mod Sums
 pub mod Grids

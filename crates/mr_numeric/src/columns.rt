@@ -1,6 +1,7 @@
 ghost use Rattle.std.specs.Prelude.{◌≡◌, ◌≤◌, ◌<◌, ℕ, pos, nat_abs, length, flat_map, slice_index_or, All};
 ghost use Rattle.std.specs.List.{range_with_len};
 ghost use Rattle.mr_defs.specs.Folded.{limit};
+ghost use Rattle.mr_defs.specs.Limits.{greatest_element};
 ghost use Rattle.mr_defs.specs.Tasks as tasks;
 ghost use Rattle.mr_items.specs.Pca.{column_emits, column_emissions};
 ghost use Rattle.mr_split.specs.Pieces.{AreSpans};
@@ -29,7 +30,8 @@ impl<'a> Spanned<Columns<'a>> {
         ensures count { ⟦<ColumnSums<'a> as Mapper>⟧.task_count result ≡ length spans }
         ensures tasks { (t : ℕ) → ⟦<ColumnSums<'a> as Mapper>⟧.task_emissions result t
             ≡ tasks.task_emissions (column_emits grid.now) (range_with_len 0 (length grid.now)) (slice_index_or spans t (0, 0)) }
-        ensures whole { flat_map (⟦<ColumnSums<'a> as Mapper>⟧.task_emissions result) (range_with_len 0 (⟦<ColumnSums<'a> as Mapper>⟧.task_count result)) ≡ column_emissions grid.now }
+        ensures whole { flat_map (⟦<ColumnSums<'a> as Mapper>⟧.task_emissions result)
+            (range_with_len 0 (⟦<ColumnSums<'a> as Mapper>⟧.task_count result)) ≡ column_emissions grid.now }
     {
         Spanned::over(Columns { grid }, spans)
     }
@@ -59,7 +61,7 @@ impl<'a> Items for Columns<'a> {
 /// The number at a place of a row.
 #[inline(always)]
 fn element(row: &[i32], j: usize) -> i64
-    requires row { All (λ z. nat_abs z ≤ 2147483647) row.now }
+    requires row { All (λ z. nat_abs z ≤ greatest_element) row.now }
     requires j { j < length row.now }
     ensures element { result ≡ slice_index_or row.now j (pos 0) }
     ensures small { nat_abs result ≤ limit }

@@ -1,4 +1,5 @@
 ghost use Rattle.std.specs.Prelude.{◌≡◌, ◌≤◌, ◌<◌, ◌*◌, ◌-ℤ◌, pos, nat_abs, length, slice_index_or, All, IsTrue};
+ghost use Rattle.mr_defs.specs.Limits.{greatest_element};
 ghost use Rattle.mr_items.specs.KMeans as items;
 ghost use Rattle.mr_numeric.specs.Distances.{AreShort};
 
@@ -10,7 +11,7 @@ const FEW: usize = 1024;
 /// Whether all coordinates are short.
 #[inline(always)]
 pub(crate) fn are_short(coordinates: &[i32]) -> bool
-    requires { All (λ z. nat_abs z ≤ 2147483647) coordinates.now }
+    requires { All (λ z. nat_abs z ≤ greatest_element) coordinates.now }
     ensures { IsTrue result → AreShort coordinates.now }
 {
     coordinates.iter().all(|z| z.unsigned_abs() <= SHORT)
@@ -50,8 +51,8 @@ fn short_distance(point: &[i32], mean: &[i32]) -> u64
 /// The square of what two coordinates differ by.
 #[inline(always)]
 fn square(point: &[i32], mean: &[i32], at: usize) -> u64
-    requires point { All (λ z. nat_abs z ≤ 2147483647) point.now }
-    requires mean { All (λ z. nat_abs z ≤ 2147483647) mean.now }
+    requires point { All (λ z. nat_abs z ≤ greatest_element) point.now }
+    requires mean { All (λ z. nat_abs z ≤ greatest_element) mean.now }
     requires alike { length point.now ≡ length mean.now }
     requires at { at < length point.now }
     ensures { result ≡ nat_abs (slice_index_or point.now at (pos 0) -ℤ slice_index_or mean.now at (pos 0))
@@ -63,8 +64,8 @@ fn square(point: &[i32], mean: &[i32], at: usize) -> u64
 
 /// The distance of two points.
 fn long_distance(point: &[i32], mean: &[i32]) -> u128
-    requires point { All (λ z. nat_abs z ≤ 2147483647) point.now }
-    requires mean { All (λ z. nat_abs z ≤ 2147483647) mean.now }
+    requires point { All (λ z. nat_abs z ≤ greatest_element) point.now }
+    requires mean { All (λ z. nat_abs z ≤ greatest_element) mean.now }
     requires alike { length point.now ≡ length mean.now }
     ensures distance { result ≡ items.distance point.now mean.now }
     ensures below { result < 340282366920938463463374607431768211455 }
@@ -80,8 +81,8 @@ fn long_distance(point: &[i32], mean: &[i32]) -> u128
 /// to be short.
 #[inline(always)]
 pub(crate) fn distance(point: &[i32], mean: &[i32], short: bool) -> u128
-    requires point { All (λ z. nat_abs z ≤ 2147483647) point.now }
-    requires mean { All (λ z. nat_abs z ≤ 2147483647) mean.now }
+    requires point { All (λ z. nat_abs z ≤ greatest_element) point.now }
+    requires mean { All (λ z. nat_abs z ≤ greatest_element) mean.now }
     requires alike { length point.now ≡ length mean.now }
     requires short_point { IsTrue short → AreShort point.now }
     requires short_mean { IsTrue short → AreShort mean.now }

@@ -33,8 +33,10 @@ impl<'a> Spanned<PixelRows<'a>> {
         requires bitmap { bitmap_of input.now ≡ Ok bitmap }
         requires spans { AreSpans bitmap.rows spans }
         ensures count { ⟦<Histogram<'a> as Mapper>⟧.task_count result ≡ length spans }
-        ensures tasks { (t : ℕ) → ⟦<Histogram<'a> as Mapper>⟧.task_emissions result t ≡ tasks.task_emissions (histogram_emits input.now) (range_with_len 0 (pixel_rows input.now)) (slice_index_or spans t (0, 0)) }
-        ensures whole { flat_map (⟦<Histogram<'a> as Mapper>⟧.task_emissions result) (range_with_len 0 (⟦<Histogram<'a> as Mapper>⟧.task_count result)) ≡ histogram_emissions input.now }
+        ensures tasks { (t : ℕ) → ⟦<Histogram<'a> as Mapper>⟧.task_emissions result t
+            ≡ tasks.task_emissions (histogram_emits input.now) (range_with_len 0 (pixel_rows input.now)) (slice_index_or spans t (0, 0)) }
+        ensures whole { flat_map (⟦<Histogram<'a> as Mapper>⟧.task_emissions result)
+            (range_with_len 0 (⟦<Histogram<'a> as Mapper>⟧.task_count result)) ≡ histogram_emissions input.now }
     {
         Spanned::over(PixelRows { input, bitmap }, spans)
     }
@@ -70,7 +72,8 @@ fn emit_pixel<L: Local<Key = NumKey, Value = i64>>(
 ) -> Result<(), Memory>
     requires { place + 3 ≤ length bytes.now }
     ensures ok { OnOk result ((es : List (Emission ℕ ℤ)) → L.stands out.old es → L.stands out.new (es ++ pixel_emits bytes.now place)) }
-    ensures err { OnErr result ((es : List (Emission ℕ ℤ)) → L.stands out.old es → (n : ℕ) × L.stands out.new (es ++ take n (pixel_emits bytes.now place))) }
+    ensures err { OnErr result
+        ((es : List (Emission ℕ ℤ)) → L.stands out.old es → (n : ℕ) × L.stands out.new (es ++ take n (pixel_emits bytes.now place))) }
     ensures origin { L.same_origin out.old out.new }
 {
     let blue = bytes[place] as u64;

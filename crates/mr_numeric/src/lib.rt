@@ -8,6 +8,7 @@
 //! text is that of the definition.
 #![tactic(auto)]
 
+mod block;
 mod cluster_lines;
 #[cfg(test)]
 mod cluster_tests;

@@ -1,5 +1,7 @@
 ghost use Rattle.std.specs.Prelude.{◌≡◌, ◌≤◌, ◌<◌, ◌++◌, nat_abs, length, map, take, slice_index_or, [], All, IfOk, IsTrue};
 ghost use Rattle.std.specs.Bool.{Decides};
+ghost use Rattle.mr_defs.specs.Folded.{limit};
+ghost use Rattle.mr_defs.specs.Limits.{greatest_element};
 ghost use Rattle.mr_items.specs.Grid.{columns_of};
 ghost use Rattle.mr_items.specs.KMeans.{means_eq};
 ghost use Rattle.mr_numeric.specs.Distances.{AreShort};
@@ -22,12 +24,13 @@ pub(crate) struct Mean {
 
 impl Model for Mean {
     ghost use Rattle.std.specs.Prelude.{◌≡◌, ◌≤◌, ℤ, nat_abs, List, All};
+    ghost use Rattle.mr_defs.specs.Limits.{greatest_element};
 
     ghost Value = { List ℤ };
 
     ghost view = { λ m. m.coordinates.items };
 
-    ghost invariant = { λ m. All (λ z. nat_abs z ≤ 2147483647) m.coordinates.items → m.near.items ≡ m.coordinates.items };
+    ghost invariant = { λ m. All (λ z. nat_abs z ≤ greatest_element) m.coordinates.items → m.near.items ≡ m.coordinates.items };
 }
 
 impl Mean {
@@ -55,7 +58,7 @@ impl Mean {
 
     /// The coordinates of a mean of the points of a grid.
     pub(crate) fn near(&self) -> &[i32]
-        requires { All (λ z. nat_abs z ≤ 2147483647) self.now }
+        requires { All (λ z. nat_abs z ≤ greatest_element) self.now }
         ensures { result.now ≡ self.now }
     {
         self.near.as_slice()
@@ -64,7 +67,7 @@ impl Mean {
 
 /// The same coordinates where each has 32 bits.
 fn nearby(alloc: Global, coordinates: &[i128]) -> Result<Vec<i32>, Memory>
-    ensures { IfOk result (λ near. All (λ z. nat_abs z ≤ 2147483647) coordinates.now → near.items ≡ coordinates.now) }
+    ensures { IfOk result (λ near. All (λ z. nat_abs z ≤ greatest_element) coordinates.now → near.items ≡ coordinates.now) }
 {
     let mut near = Vec::with_capacity(alloc, coordinates.len())?;
     for coordinate in coordinates {
@@ -75,7 +78,7 @@ fn nearby(alloc: Global, coordinates: &[i128]) -> Result<Vec<i32>, Memory>
 
 /// The same number, or 0 where it has more than 32 bits.
 fn narrowed(number: i128) -> i32
-    ensures { nat_abs number ≤ 2147483647 → result ≡ number }
+    ensures { nat_abs number ≤ greatest_element → result ≡ number }
 {
     match i32::try_from(number) {
         Ok(narrow) => narrow,
@@ -85,7 +88,7 @@ fn narrowed(number: i128) -> i32
 
 /// The point that a row of a grid is, as a mean.
 fn mean_of_row(alloc: Global, row: &[i32]) -> Result<Mean, Memory>
-    requires { All (λ z. nat_abs z ≤ 2147483647) row.now }
+    requires { All (λ z. nat_abs z ≤ greatest_element) row.now }
     ensures { IfOk result (λ mean. mean ≡ row.now) }
 {
     let mut coordinates = Vec::with_capacity(alloc, row.len())?;
@@ -133,7 +136,7 @@ impl Means {
     /// How many clusters there are.
     pub(crate) fn len(&self) -> usize
         ensures len { result ≡ length self.now }
-        ensures few { result ≤ 9223372036854775807 }
+        ensures few { result ≤ limit }
     {
         self.means.len()
     }
@@ -165,7 +168,7 @@ impl Means {
 
     /// Whether all coordinates of these means are short.
     pub(crate) fn are_short(&self) -> bool
-        requires { All (All (λ z. nat_abs z ≤ 2147483647)) self.now }
+        requires { All (All (λ z. nat_abs z ≤ greatest_element)) self.now }
         ensures { IsTrue result → All AreShort self.now }
     {
         for cluster in 0..self.len() {

@@ -1,6 +1,7 @@
 ghost use Rattle.std.specs.Prelude.{◌≡◌, ◌≤◌, true, length, nat_abs};
 ghost use Rattle.std.specs.List.{All};
 ghost use Rattle.mr_defs.specs.Folded.{total};
+ghost use Rattle.mr_defs.specs.Limits.{greatest_element};
 ghost use Rattle.mr_kernels.specs.Product.{products, pair_sum_of};
 ghost use Rattle.mr_numeric.specs.Narrow.{AreNarrow};
 
@@ -54,8 +55,8 @@ fn narrow_sum(left: &[i32], right: &[i32]) -> i32
 #[inline(always)]
 pub(crate) fn row_sum(left: &[i32], right: &[i32], narrow: bool) -> Option<i64>
     requires lengths { length left.now ≡ length right.now }
-    requires left { All (λ z. nat_abs z ≤ 2147483647) left.now }
-    requires right { All (λ z. nat_abs z ≤ 2147483647) right.now }
+    requires left { All (λ z. nat_abs z ≤ greatest_element) left.now }
+    requires right { All (λ z. nat_abs z ≤ greatest_element) right.now }
     requires few { narrow ≡ true → length left.now ≤ 1024 }
     requires narrow_left { narrow ≡ true → All (λ z. nat_abs z ≤ 1448) left.now }
     requires narrow_right { narrow ≡ true → All (λ z. nat_abs z ≤ 1448) right.now }

@@ -1,6 +1,7 @@
 ghost use Rattle.std.specs.Prelude.{◌≡◌, ◌≤◌, ℕ, nat_abs, length, flat_map, slice_index_or, All, IsTrue};
 ghost use Rattle.std.specs.List.{range_with_len};
 ghost use Rattle.mr_defs.specs.Folded.{limit};
+ghost use Rattle.mr_defs.specs.Limits.{greatest_element};
 ghost use Rattle.mr_defs.specs.Tasks as tasks;
 ghost use Rattle.mr_items.specs.Grid.{columns_of};
 ghost use Rattle.mr_items.specs.KMeans as items;
@@ -74,7 +75,7 @@ impl<'a> Items for Clustered<'a> {
 /// The number of the first mean that is as near to the point as each other. Told are coordinates that are all short.
 fn nearest_mean(means: &Means, point: &[i32], short: bool) -> u64
     requires means { AreMeans (length point.now) means.now }
-    requires point { All (λ z. nat_abs z ≤ 2147483647) point.now }
+    requires point { All (λ z. nat_abs z ≤ greatest_element) point.now }
     requires short_point { IsTrue short → AreShort point.now }
     requires short_means { IsTrue short → All AreShort means.now }
     ensures nearest { result ≡ items.nearest means.now point.now }

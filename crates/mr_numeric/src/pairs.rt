@@ -18,7 +18,8 @@ pub(crate) fn emit_pairs<L: Local<Key = NumKey, Value = i64>>(
     requires keys { All (λ p. p.0 ≤ limit) pairs.now }
     requires values { All (λ p. nat_abs p.1 ≤ limit) pairs.now }
     ensures ok { OnOk result ((es : List (Emission ℕ ℤ)) → L.stands out.old es → L.stands out.new (es ++ flat_map pair_of pairs.now)) }
-    ensures err { OnErr result ((es : List (Emission ℕ ℤ)) → L.stands out.old es → (n : ℕ) × L.stands out.new (es ++ take n (flat_map pair_of pairs.now))) }
+    ensures err { OnErr result
+        ((es : List (Emission ℕ ℤ)) → L.stands out.old es → (n : ℕ) × L.stands out.new (es ++ take n (flat_map pair_of pairs.now))) }
     ensures origin { L.same_origin out.old out.new }
 {
     for i in 0..pairs.len() {
@@ -38,7 +39,8 @@ pub(crate) fn emit_sum<L: Local<Key = NumKey, Value = i64>>(
     requires key { key ≤ limit }
     requires sum { IfSome sum (λ z. nat_abs z ≤ limit) }
     ensures ok { OnOk result ((es : List (Emission ℕ ℤ)) → L.stands out.old es → L.stands out.new (es ++ sum_of key sum)) }
-    ensures err { OnErr result ((es : List (Emission ℕ ℤ)) → L.stands out.old es → (n : ℕ) × L.stands out.new (es ++ take n (sum_of key sum))) }
+    ensures err { OnErr result
+        ((es : List (Emission ℕ ℤ)) → L.stands out.old es → (n : ℕ) × L.stands out.new (es ++ take n (sum_of key sum))) }
     ensures origin { L.same_origin out.old out.new }
 {
     match sum {

@@ -31,7 +31,7 @@ pub fn pca_text(
 }
 
 /// Appends a line for each mean.
-fn push_means(text: &mut Text, means: &[i32]) -> Result<(), Memory>
+fn push_means(text: &mut Text, means: &[i128]) -> Result<(), Memory>
     ensures { OnOk result (text.new ≡ text.old ++ flat_map items.mean_line (enumerate_from 0 means.now)) }
 {
     for column in 0..means.len() {
@@ -41,14 +41,14 @@ fn push_means(text: &mut Text, means: &[i32]) -> Result<(), Memory>
 }
 
 /// Appends the line of a column's mean.
-fn push_mean(text: &mut Text, means: &[i32], column: usize) -> Result<(), Memory>
+fn push_mean(text: &mut Text, means: &[i128], column: usize) -> Result<(), Memory>
     requires { column < length means.now }
     ensures { OnOk result (text.new ≡ text.old ++ items.mean_line (column, slice_index_or means.now column (pos 0))) }
 {
     text.push(b"mean ")?;
     text.push_natural(column as u64)?;
     text.push(b" ")?;
-    text.push_number(means[column] as i128)?;
+    text.push_number(means[column])?;
     text.push(b"\n")
 }
 

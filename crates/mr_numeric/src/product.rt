@@ -1,6 +1,7 @@
 ghost use Rattle.std.specs.Prelude.{◌≡◌, ◌≤◌, ◌<◌, ◌*◌, true, ℕ, ℤ, List, IfSome, length, nat_abs, flat_map, slice_index_or};
 ghost use Rattle.std.specs.List.{range_with_len};
 ghost use Rattle.mr_defs.specs.Folded.{limit};
+ghost use Rattle.mr_defs.specs.Limits.{input_limit};
 ghost use Rattle.mr_defs.specs.Tasks as tasks;
 ghost use Rattle.mr_items.specs.Grid.{columns_of};
 ghost use Rattle.mr_items.specs.MatrixProduct.{matrix_product_emits, matrix_product_emissions};
@@ -27,7 +28,7 @@ pub struct RowPairs<'a> {
     // Whether the sums are known to need no more than 32 bits.
     narrow: bool,
     ghost alike: { columns_of left.now ≡ columns_of right.now },
-    ghost few: { length left.now * length right.now ≤ 134217728 },
+    ghost few: { length left.now * length right.now ≤ input_limit },
     ghost short: { narrow ≡ true → columns_of left.now ≤ 1024 },
     ghost narrow_left: { narrow ≡ true → AreNarrow left.now },
     ghost narrow_right: { narrow ≡ true → AreNarrow right.now },
@@ -40,13 +41,16 @@ impl<'a> Spanned<RowPairs<'a>> {
     /// The job over the rows of the left grid and the columns of the right one, which are the rows of `right_turned`. Takes no memory.
     pub fn new(left: &'a Grid, right_turned: &'a Grid, spans: Spans) -> Product<'a>
         requires alike { columns_of left.now ≡ columns_of right_turned.now }
-        requires few { length left.now * length right_turned.now ≤ 134217728 }
+        requires few { length left.now * length right_turned.now ≤ input_limit }
         requires spans { AreSpans (length left.now * length right_turned.now) spans }
         ensures count { ⟦<Product<'a> as Mapper>⟧.task_count result ≡ length spans }
-        ensures tasks { (right : List (List ℤ)) (t : ℕ) → right_turned.now ≡ turned_of right → ⟦<Product<'a> as Mapper>⟧.task_emissions result t
-            ≡ tasks.task_emissions (matrix_product_emits left.now right) (range_with_len 0 (length left.now * columns_of right)) (slice_index_or spans t (0, 0)) }
+        ensures tasks { (right : List (List ℤ)) (t : ℕ) → right_turned.now ≡ turned_of right
+            → ⟦<Product<'a> as Mapper>⟧.task_emissions result t
+            ≡ tasks.task_emissions (matrix_product_emits left.now right) (range_with_len 0 (length left.now * columns_of right))
+            (slice_index_or spans t (0, 0)) }
         ensures whole { (right : List (List ℤ)) → right_turned.now ≡ turned_of right
-            → flat_map (⟦<Product<'a> as Mapper>⟧.task_emissions result) (range_with_len 0 (⟦<Product<'a> as Mapper>⟧.task_count result)) ≡ matrix_product_emissions left.now right }
+            → flat_map (⟦<Product<'a> as Mapper>⟧.task_emissions result) (range_with_len 0 (⟦<Product<'a> as Mapper>⟧.task_count result))
+            ≡ matrix_product_emissions left.now right }
     {
         let narrow = left.columns() <= 1024 && are_narrow(left) && are_narrow(right_turned);
         let pairs = RowPairs {

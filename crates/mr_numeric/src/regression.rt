@@ -1,7 +1,9 @@
-ghost use Rattle.std.specs.Prelude.{◌≡◌, ◌≤◌, ◌<◌, ◌++◌, ◌*ℤ◌, [], ℕ, ℤ, pos, true, List, length, nat_abs, take, flat_map, slice_index_or, OnOk, OnErr};
+ghost use Rattle.std.specs.Prelude.{◌≡◌, ◌≤◌, ◌<◌, ◌++◌, ◌*ℤ◌, [], ℕ, ℤ, pos, true, List, length, nat_abs, take, flat_map, slice_index_or};
+ghost use Rattle.std.specs.Prelude.{OnOk, OnErr};
 ghost use Rattle.std.specs.List.{range_with_len};
 ghost use Rattle.mr_defs.specs.Emission.{Emission};
 ghost use Rattle.mr_defs.specs.Folded.{limit};
+ghost use Rattle.mr_defs.specs.Limits.{greatest_element};
 ghost use Rattle.mr_defs.specs.Tasks as tasks;
 ghost use Rattle.mr_items.specs.Grid.{columns_of};
 ghost use Rattle.mr_items.specs.LinearRegression.{is_regression_shape, point_emits, linear_regression_emits, linear_regression_emissions};
@@ -32,8 +34,10 @@ impl<'a> Spanned<Points<'a>> {
         requires shape { is_regression_shape grid.now ≡ true }
         requires spans { AreSpans (length grid.now) spans }
         ensures count { ⟦<Regression<'a> as Mapper>⟧.task_count result ≡ length spans }
-        ensures tasks { (t : ℕ) → ⟦<Regression<'a> as Mapper>⟧.task_emissions result t ≡ tasks.task_emissions (linear_regression_emits grid.now) (range_with_len 0 (length grid.now)) (slice_index_or spans t (0, 0)) }
-        ensures whole { flat_map (⟦<Regression<'a> as Mapper>⟧.task_emissions result) (range_with_len 0 (⟦<Regression<'a> as Mapper>⟧.task_count result)) ≡ linear_regression_emissions grid.now }
+        ensures tasks { (t : ℕ) → ⟦<Regression<'a> as Mapper>⟧.task_emissions result t
+            ≡ tasks.task_emissions (linear_regression_emits grid.now) (range_with_len 0 (length grid.now)) (slice_index_or spans t (0, 0)) }
+        ensures whole { flat_map (⟦<Regression<'a> as Mapper>⟧.task_emissions result)
+            (range_with_len 0 (⟦<Regression<'a> as Mapper>⟧.task_count result)) ≡ linear_regression_emissions grid.now }
     {
         Spanned::over(Points { grid }, spans)
     }
@@ -64,7 +68,7 @@ fn coordinates(grid: &Grid, row: u64) -> (i64, i64)
     requires columns { columns_of grid.now ≡ 2 }
     ensures x { result.0 ≡ slice_index_or (slice_index_or grid.now row []) 0 (pos 0) }
     ensures y { result.1 ≡ slice_index_or (slice_index_or grid.now row []) 1 (pos 0) }
-    ensures small { (nat_abs result.0 ≤ 2147483647) × (nat_abs result.1 ≤ 2147483647) }
+    ensures small { (nat_abs result.0 ≤ greatest_element) × (nat_abs result.1 ≤ greatest_element) }
 {
     let row = grid.row(row);
     (row[0] as i64, row[1] as i64)
@@ -77,10 +81,11 @@ fn emit_point<L: Local<Key = NumKey, Value = i64>>(
     y: i64,
     out: &mut L,
 ) -> Result<(), Memory>
-    requires x { nat_abs x ≤ 2147483647 }
-    requires y { nat_abs y ≤ 2147483647 }
+    requires x { nat_abs x ≤ greatest_element }
+    requires y { nat_abs y ≤ greatest_element }
     ensures ok { OnOk result ((es : List (Emission ℕ ℤ)) → L.stands out.old es → L.stands out.new (es ++ point_emits x y)) }
-    ensures err { OnErr result ((es : List (Emission ℕ ℤ)) → L.stands out.old es → (n : ℕ) × L.stands out.new (es ++ take n (point_emits x y))) }
+    ensures err { OnErr result
+        ((es : List (Emission ℕ ℤ)) → L.stands out.old es → (n : ℕ) × L.stands out.new (es ++ take n (point_emits x y))) }
     ensures origin { L.same_origin out.old out.new }
 {
     let xx = product(x, x);
@@ -92,8 +97,8 @@ fn emit_point<L: Local<Key = NumKey, Value = i64>>(
 /// The product of two coordinates.
 #[inline(always)]
 fn product(x: i64, y: i64) -> i64
-    requires x { nat_abs x ≤ 2147483647 }
-    requires y { nat_abs y ≤ 2147483647 }
+    requires x { nat_abs x ≤ greatest_element }
+    requires y { nat_abs y ≤ greatest_element }
     ensures product { result ≡ x *ℤ y }
     ensures small { nat_abs result ≤ limit }
 {

@@ -50,7 +50,8 @@ pub fn regression_text(alloc: Global, rows: &Rows<NumKey>) -> Result<Text, Memor
 fn push_sums(text: &mut Text, sums: &Sums) -> Result<(), Memory>
     ensures { OnOk result ((rest : List ℕ) → text.new ++ rest
         ≡ text.old ++ (items.named (codes "n") sums.now.n ++ (items.named (codes "sx") sums.now.x ++ (items.named (codes "sy") sums.now.y
-        ++ (items.named (codes "sxx") sums.now.xx ++ (items.named (codes "syy") sums.now.yy ++ (items.named (codes "sxy") sums.now.xy ++ rest))))))) }
+        ++ (items.named (codes "sxx") sums.now.xx
+        ++ (items.named (codes "syy") sums.now.yy ++ (items.named (codes "sxy") sums.now.xy ++ rest))))))) }
 {
     push_named(text, b"n", sums.n)?;
     push_named(text, b"sx", sums.x)?;
@@ -63,8 +64,12 @@ fn push_sums(text: &mut Text, sums: &Sums) -> Result<(), Memory>
 /// Appends the lines of the slope and the intercept.
 fn push_fractions(text: &mut Text, sums: &Sums) -> Result<(), Memory>
     ensures { OnOk result (text.new ≡ text.old
-        ++ (texts.line (codes "slope " ++ texts.fraction ((sums.now.n *ℤ sums.now.xy) -ℤ (sums.now.x *ℤ sums.now.y)) ((sums.now.n *ℤ sums.now.xx) -ℤ (sums.now.x *ℤ sums.now.x)))
-        ++ texts.line (codes "intercept " ++ texts.fraction ((sums.now.y *ℤ sums.now.xx) -ℤ (sums.now.x *ℤ sums.now.xy)) ((sums.now.n *ℤ sums.now.xx) -ℤ (sums.now.x *ℤ sums.now.x))))) }
+        ++ (texts.line (codes "slope "
+        ++ texts.fraction ((sums.now.n *ℤ sums.now.xy) -ℤ (sums.now.x *ℤ sums.now.y))
+        ((sums.now.n *ℤ sums.now.xx) -ℤ (sums.now.x *ℤ sums.now.x)))
+        ++ texts.line (codes "intercept "
+        ++ texts.fraction ((sums.now.y *ℤ sums.now.xx) -ℤ (sums.now.x *ℤ sums.now.xy))
+        ((sums.now.n *ℤ sums.now.xx) -ℤ (sums.now.x *ℤ sums.now.x))))) }
 {
     let below = difference(sums.n, sums.xx, sums.x, sums.x);
     let slope = difference(sums.n, sums.xy, sums.x, sums.y);

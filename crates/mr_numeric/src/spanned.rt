@@ -27,8 +27,10 @@ pub trait Items: Drop {
         out: &mut L,
     ) -> Result<(), Memory>
         requires { item < count self.now }
-        ensures ok { OnOk result ((es : List (Emission ℕ Self.Value)) → L.stands out.old es → L.stands out.new (es ++ emits self.now item)) }
-        ensures err { OnErr result ((es : List (Emission ℕ Self.Value)) → L.stands out.old es → (n : ℕ) × L.stands out.new (es ++ take n (emits self.now item))) }
+        ensures ok { OnOk result
+            ((es : List (Emission ℕ Self.Value)) → L.stands out.old es → L.stands out.new (es ++ emits self.now item)) }
+        ensures err { OnErr result
+            ((es : List (Emission ℕ Self.Value)) → L.stands out.old es → (n : ℕ) × L.stands out.new (es ++ take n (emits self.now item))) }
         ensures origin { L.same_origin out.old out.new };
 
     /// Emits what the items from one number up to another have, in their order. After `Memory` a first part of that was emitted.
@@ -69,8 +71,10 @@ impl<I: Items> Spanned<I> {
     pub fn over(items: I, spans: Spans) -> Spanned<I>
         requires { AreSpans (I.count items) spans }
         ensures count { ⟦<Spanned<I> as Mapper>⟧.task_count result ≡ length spans }
-        ensures tasks { (t : ℕ) → ⟦<Spanned<I> as Mapper>⟧.task_emissions result t ≡ tasks.task_emissions (I.emits items) (range_with_len 0 (I.count items)) (slice_index_or spans t (0, 0)) }
-        ensures whole { flat_map (⟦<Spanned<I> as Mapper>⟧.task_emissions result) (range_with_len 0 (⟦<Spanned<I> as Mapper>⟧.task_count result)) ≡ flat_map (I.emits items) (range_with_len 0 (I.count items)) }
+        ensures tasks { (t : ℕ) → ⟦<Spanned<I> as Mapper>⟧.task_emissions result t
+            ≡ tasks.task_emissions (I.emits items) (range_with_len 0 (I.count items)) (slice_index_or spans t (0, 0)) }
+        ensures whole { flat_map (⟦<Spanned<I> as Mapper>⟧.task_emissions result)
+            (range_with_len 0 (⟦<Spanned<I> as Mapper>⟧.task_count result)) ≡ flat_map (I.emits items) (range_with_len 0 (I.count items)) }
     {
         Spanned { items, spans }
     }
@@ -83,7 +87,8 @@ impl<I: Items> Mapper for Spanned<I> {
 
     ghost task_count = { λ m. length m.spans };
 
-    ghost task_emissions = { λ m t. tasks.task_emissions (I.emits m.items) (range_with_len 0 (I.count m.items)) (slice_index_or m.spans t (0, 0)) };
+    ghost task_emissions = { λ m t. tasks.task_emissions (I.emits m.items) (range_with_len 0 (I.count m.items))
+        (slice_index_or m.spans t (0, 0)) };
 
     fn tasks(&self) -> u32 {
         self.spans.len()

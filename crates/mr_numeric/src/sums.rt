@@ -1,4 +1,5 @@
-ghost use Rattle.std.specs.Prelude.{◌≡◌, ◌≤◌, ◌<◌, ◌==◌, ◌∷◌, ℕ, pos, nat_abs, List, length, map, get_or, find, Some, None, All, IfSome, IfNone, IfOk};
+ghost use Rattle.std.specs.Prelude.{◌≡◌, ◌≤◌, ◌<◌, ◌==◌, ◌∷◌, ℕ, pos, nat_abs, List, length, map, get_or, find, Some, None, All, IfSome};
+ghost use Rattle.std.specs.Prelude.{IfNone, IfOk};
 ghost use Rattle.std.specs.List.{range_with_len};
 ghost use Rattle.mr_defs.specs.Emission.{Row};
 ghost use Rattle.mr_defs.specs.Folded.{limit};

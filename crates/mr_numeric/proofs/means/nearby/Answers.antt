@@ -1,6 +1,7 @@
 use Rattle.std.proofs.Common.{◌≡◌, ◌≤◌, ◌++◌, ◌∷◌, nat_abs, [], pos, get_or, ap, ◌∙◌, arith, sym, w32, to_z, of_z}
 use Rattle.std.proofs.lemmas.List.{take_all, take_more}
 use Rattle.std.proofs.lemmas.List.Elements.{All-get_or}
+use Rattle.mr_defs.specs.Limits.{greatest_element}
 use Rattle.mr_numeric.proofs.Products.{kept_wide}
 use Rattle.mr_numeric.proofs.Quotients.{narrow_is}
 use Rattle.mr_numeric.proofs.means.nearby.Goals as goal
@@ -10,7 +11,7 @@ loop-coordinate-preserved c = λ small.
     let xs = c.args.coordinates.now in
     let i = c.loop-coordinate.coordinate-index in
     let z = get_or xs i (pos 0) in
-    let is : nat_abs z ≤ 2147483647 = All-get_or (λ z. nat_abs z ≤ 2147483647) xs i (pos 0) c.loop-coordinate-test.true small in
+    let is : nat_abs z ≤ greatest_element = All-get_or (λ z. nat_abs z ≤ greatest_element) xs i (pos 0) c.loop-coordinate-test.true small in
     let same : c.narrowed.result ≡ z =
     let kept = kept_wide z (omega (arith, is)) in c.narrowed.ensures (omega (arith, ap nat_abs kept, is)) ∙ kept in
     c.in_ok-push.ensures.items

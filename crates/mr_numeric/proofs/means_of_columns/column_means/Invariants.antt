@@ -1,10 +1,6 @@
-use Rattle.std.proofs.Common.{◌≡◌, ◌≤◌, nat_abs, take}
-use Rattle.std.specs.List.{All}
+use Rattle.std.proofs.Common.{◌≡◌, take}
 use Rattle.mr_items.specs.Pca.{column_means}
 use Rattle.mr_numeric.proofs.means_of_columns.column_means.Given as goal
 
 abbrev pub invariant-loop-row : goal.invariant-loop-row
-invariant-loop-row l = record {
-  means : l.means.items ≡ column_means (take l.row-index l.rows) l.points;
-  small : All (λ z. nat_abs z ≤ 2147483647) l.means.items;
-}
+invariant-loop-row l = l.means.items ≡ column_means (take l.row-index l.rows) l.points

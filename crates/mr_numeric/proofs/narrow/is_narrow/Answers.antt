@@ -11,7 +11,9 @@ loop-number-preserved c =
     let i = c.loop-number.number-index in
     let number = get_or numbers i (pos 0) in
     let fits : FitsSigned w32 number = search rules in
-    All-more (λ z. nat_abs z ≤ 1448) numbers i (pos 0) (omega arith) c.loop-number.invariant (omega (arith, c.unsigned_abs.ensures.value, ap nat_abs (to_z-of_z w32 number fits), c.if-unsigned_abs-gt-NARROW.false))
+    All-more (λ z. nat_abs z ≤ 1448) numbers i (pos 0) (omega arith) c.loop-number.invariant
+    (omega (arith, c.unsigned_abs.ensures.value, ap nat_abs (to_z-of_z w32 number fits), c.if-unsigned_abs-gt-NARROW.false))
 
 pub returns : goal.returns
-returns c = λ _. All-same (λ z. nat_abs z ≤ 1448) c.args.numbers.now (take c.loop-number.number-index c.args.numbers.now) (sym (take_all c.loop-number.number-index c.args.numbers.now (omega arith))) c.loop-number.invariant
+returns c = λ _. All-same (λ z. nat_abs z ≤ 1448) c.args.numbers.now (take c.loop-number.number-index c.args.numbers.now)
+    (sym (take_all c.loop-number.number-index c.args.numbers.now (omega arith))) c.loop-number.invariant

@@ -11,14 +11,18 @@ narrow numbers i h all = All-get_or (λ z. nat_abs z ≤ 1448) numbers i (pos 0)
 
 pub overflow_mul-sum : goal.overflow_mul-sum
 overflow_mul-sum c =
-    product_fits (to_z w32 c.loop-i.sum-bits) (get_or c.args.left.now c.loop-i.i (pos 0)) (get_or c.args.right.now c.loop-i.i (pos 0)) c.loop-i.i
-    (narrow c.args.left.now c.loop-i.i c.loop-i-test.true c.requires.left) (narrow c.args.right.now c.loop-i.i (omega (arith, c.loop-i-test.true, c.requires.lengths)) c.requires.right)
+    product_fits (to_z w32 c.loop-i.sum-bits) (get_or c.args.left.now c.loop-i.i (pos 0))
+    (get_or c.args.right.now c.loop-i.i (pos 0)) c.loop-i.i
+    (narrow c.args.left.now c.loop-i.i c.loop-i-test.true c.requires.left)
+    (narrow c.args.right.now c.loop-i.i (omega (arith, c.loop-i-test.true, c.requires.lengths)) c.requires.right)
     c.loop-i.invariant.few (omega (arith, c.loop-i-test.true, c.requires.few))
 
 pub overflow_add-sum : goal.overflow_add-sum
 overflow_add-sum c =
-    next_fits (to_z w32 c.loop-i.sum-bits) (get_or c.args.left.now c.loop-i.i (pos 0)) (get_or c.args.right.now c.loop-i.i (pos 0)) c.loop-i.i
-    (narrow c.args.left.now c.loop-i.i c.loop-i-test.true c.requires.left) (narrow c.args.right.now c.loop-i.i (omega (arith, c.loop-i-test.true, c.requires.lengths)) c.requires.right)
+    next_fits (to_z w32 c.loop-i.sum-bits) (get_or c.args.left.now c.loop-i.i (pos 0))
+    (get_or c.args.right.now c.loop-i.i (pos 0)) c.loop-i.i
+    (narrow c.args.left.now c.loop-i.i c.loop-i-test.true c.requires.left)
+    (narrow c.args.right.now c.loop-i.i (omega (arith, c.loop-i-test.true, c.requires.lengths)) c.requires.right)
     c.loop-i.invariant.few (omega (arith, c.loop-i-test.true, c.requires.few))
 
 pub loop-i-preserved : goal.loop-i-preserved
@@ -31,7 +35,8 @@ loop-i-preserved c =
     let is = next (to_z w32 c.loop-i.sum-bits) x y c.loop-i.i left right c.loop-i.invariant.few below in
     record {
       few = omega (arith, ap nat_abs is, next_few (to_z w32 c.loop-i.sum-bits) x y c.loop-i.i left right c.loop-i.invariant.few below);
-      so_far = is ∙ ap (λ z. z +ℤ x *ℤ y) c.loop-i.invariant.so_far ∙ sym (total_more c.args.left.now c.args.right.now c.requires.lengths c.loop-i.i c.loop-i-test.true);
+      so_far = is ∙ ap (λ z. z +ℤ x *ℤ y) c.loop-i.invariant.so_far
+          ∙ sym (total_more c.args.left.now c.args.right.now c.requires.lengths c.loop-i.i c.loop-i-test.true);
     }
 
 pub returns : goal.returns

@@ -10,6 +10,12 @@ returns-then-narrow c =
     let a = c.args.left.now in
     let b = c.args.right.now in
     let is = c.if-narrow.true in
-    let size : magnitude (products a b) ≤ limit = omega (arith, c.requires.few is, magnitude_bound a b c.requires.lengths 1448 1448 (c.requires.narrow_left is) (c.requires.narrow_right is)) in
+    let size : magnitude (products a b)
+    ≤ limit = omega (
+      arith,
+      c.requires.few is,
+      magnitude_bound a b c.requires.lengths 1448 1448 (c.requires.narrow_left is) (c.requires.narrow_right is),
+    ) in
     let sum = c.narrow_sum.result in
-    ap Some (ap (λ z. to_z w64 (of_z w64 z)) (to_z-of_z w32 sum (search rules)) ∙ to_z-of_z w64 sum (search rules) ∙ c.narrow_sum.ensures) ∙ pair_sum-within a b c.requires.lengths size
+    ap Some (ap (λ z. to_z w64 (of_z w64 z)) (to_z-of_z w32 sum (search rules)) ∙ to_z-of_z w64 sum (search rules) ∙ c.narrow_sum.ensures)
+    ∙ pair_sum-within a b c.requires.lengths size

@@ -1,4 +1,5 @@
-use Rattle.std.proofs.Common.{◌≡◌, ◌<◌, ◌+◌, ◌-◌, ◌++◌, ◌∷◌, pos, [], length, get_or, map, take, drop, ap, ap₂, sym, ◌∙◌, arith, rules, to_z, of_z}
+use Rattle.std.proofs.Common.{◌≡◌, ◌<◌, ◌+◌, ◌-◌, ◌++◌, ◌∷◌, pos, [], length, get_or, map, take, drop, ap, ap₂, sym, ◌∙◌, arith, rules}
+use Rattle.std.proofs.Common.{to_z, of_z}
 use Rattle.std.specs.Int.{int_div_euclid, w128}
 use Rattle.std.proofs.lemmas.Int.{to_z-of_z}
 use Rattle.std.proofs.lemmas.List.{get_or-drop, length-drop, map_more, take_all}

@@ -9,7 +9,9 @@ loop-column-preserved c =
     let means = c.args.means.now in
     let at = c.loop-column.column in
     one_more (mean_at means) 0 (λ l. c.push_mean.new.text ≡ l) c.args.text.now at (omega arith)
-    (c.in_ok-push_mean.ensures ∙ (ap (λ t. t ++ mean_line (at, get_or means at (pos 0))) c.loop-column.invariant ∙ ap (λ l. (c.args.text.now ++ emitted (mean_at means) 0 at) ++ l) (mean_here means at (omega (arith, c.loop-column-test.true)))))
+    (c.in_ok-push_mean.ensures
+    ∙ (ap (λ t. t ++ mean_line (at, get_or means at (pos 0))) c.loop-column.invariant
+    ∙ ap (λ l. (c.args.text.now ++ emitted (mean_at means) 0 at) ++ l) (mean_here means at (omega (arith, c.loop-column-test.true)))))
 
 pub returns : goal.returns
 returns c =

@@ -7,4 +7,5 @@ pub returns-clause-product : goal.returns-clause-product
 returns-clause-product c = product_is c.args.x c.args.y c.requires.x c.requires.y
 
 pub returns-clause-small : goal.returns-clause-small
-returns-clause-small c = subst (λ z. nat_abs z ≤ limit) (sym (product_is c.args.x c.args.y c.requires.x c.requires.y)) (product_small c.args.x c.args.y c.requires.x c.requires.y)
+returns-clause-small c = subst (λ z. nat_abs z ≤ limit) (sym (product_is c.args.x c.args.y c.requires.x c.requires.y))
+    (product_small c.args.x c.args.y c.requires.x c.requires.y)

@@ -18,4 +18,5 @@ returns c = on_ok_weaker c.push_named-6.result (λ is rest.
     ∙ named_before (codes "sxx") c.push_named-3.new.text c.push_named-4.new.text yy sums.xx sums.xx_small c.in_ok-push_named-4.ensures
     ∙ named_before (codes "sy") c.push_named-2.new.text c.push_named-3.new.text xx sums.y sums.y_small c.in_ok-push_named-3.ensures
     ∙ named_before (codes "sx") c.push_named.new.text c.push_named-2.new.text y sums.x sums.x_small c.in_ok-push_named-2.ensures
-    ∙ named_before (codes "n") c.args.text.now c.push_named.new.text x sums.n sums.n_small c.in_ok-push_named.ensures) c.push_named-6.ensures
+    ∙ named_before
+    (codes "n") c.args.text.now c.push_named.new.text x sums.n sums.n_small c.in_ok-push_named.ensures) c.push_named-6.ensures

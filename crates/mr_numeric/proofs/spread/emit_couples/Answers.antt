@@ -12,7 +12,9 @@ use Rattle.mr_numeric.proofs.spread.emit_couples.Goals.{After-product_within-pro
 use Rattle.mr_numeric.proofs.spread.emit_couples.Goals as goal
 
 -- what the pair of columns emits
-this_couple : (g : Over) (c : After-product_within-product g) → sum_of (c.args.i * length c.args.row.now + c.loop-j.j) c.product_within-product.result ≡ couple_emits c.args.means.now c.args.row.now c.args.i c.loop-j.j
+this_couple : (g : Over) (c : After-product_within-product g)
+    → sum_of (c.args.i * length c.args.row.now + c.loop-j.j) c.product_within-product.result
+    ≡ couple_emits c.args.means.now c.args.row.now c.args.i c.loop-j.j
 this_couple g c =
     let key = c.args.i * length c.args.row.now + c.loop-j.j in
     ap (sum_of key)
@@ -30,7 +32,8 @@ returns-in_err-emit_sum-clause-err g c =
     rw e.1 (λ es h.
     let some = c.in_err-emit_sum.ensures.err _ (c.loop-j.invariant.stands es h) in
     front emits c.args.i P es c.loop-j.j (length c.args.row.now) some.0 c.loop-j.invariant.from c.loop-j-test.true
-    (subst (λ l. P ((es ++ emitted emits c.args.i c.loop-j.j) ++ take some.0 l)) (this_couple g (goal.at.returns-in_err-emit_sum-clause-err g c).After-product_within-product) some.1))
+    (subst (λ l. P ((es ++ emitted emits c.args.i c.loop-j.j) ++ take some.0 l))
+    (this_couple g (goal.at.returns-in_err-emit_sum-clause-err g c).After-product_within-product) some.1))
 
 pub loop-j-preserved : goal.loop-j-preserved
 loop-j-preserved g c =
@@ -39,6 +42,8 @@ loop-j-preserved g c =
     record {
       from = omega (arith, c.loop-j.invariant.from);
       stands = λ es h. one_more emits c.args.i P es c.loop-j.j c.loop-j.invariant.from
-          (subst (λ l. P ((es ++ emitted emits c.args.i c.loop-j.j) ++ l)) (this_couple g (goal.at.loop-j-preserved g c).After-product_within-product) (c.in_ok-emit_sum.ensures.ok _ (c.loop-j.invariant.stands es h)));
+          (subst (λ l. P ((es ++ emitted emits c.args.i c.loop-j.j) ++ l))
+          (this_couple g (goal.at.loop-j-preserved g c).After-product_within-product)
+          (c.in_ok-emit_sum.ensures.ok _ (c.loop-j.invariant.stands es h)));
       origin = g.met.L.Local.origin_trans _ _ _ c.loop-j.invariant.origin c.in_ok-emit_sum.ensures.origin;
     }

@@ -3,6 +3,7 @@ use Rattle.std.specs.List.{All}
 use Rattle.std.proofs.lemmas.List.{take_more}
 use Rattle.std.proofs.lemmas.List.Elements.{All-push}
 use Rattle.std.proofs.lemmas.Option.{get_or_from_slice_get}
+use Rattle.mr_defs.specs.Limits.{greatest_element}
 use Rattle.mr_items.specs.Grid.{columns_of}
 use Rattle.mr_numeric.specs.Sums.{AreMeans}
 use Rattle.mr_numeric.proofs.means.Means.first.Goals as goal
@@ -21,6 +22,6 @@ loop-row-preserved c =
           ∙ sym (take_more grid i [] (omega (arith, c.loop-row-test.true, c.requires.there)));
       fit = subst (AreMeans (columns_of grid)) (sym items) (record {
         each = All-push (λ m. length m ≡ columns_of grid) means row c.loop-row.invariant.fit.each c.row.ensures.length;
-        small = All-push (All (λ z. nat_abs z ≤ 2147483647)) means row c.loop-row.invariant.fit.small c.row.ensures.bounded;
+        small = All-push (All (λ z. nat_abs z ≤ greatest_element)) means row c.loop-row.invariant.fit.small c.row.ensures.bounded;
       });
     }

@@ -17,9 +17,12 @@ loop-item-init g c =
     let none = c.in_ok-block.ensures.items in
     record {
       from = omega arith;
-      allowed = All-same (λ p. (p.0 ≤ limit) × (p.1 ≢ negsuc limit)) c.in_ok-block.block.items [] none (λ k d below. absurd (omega (arith, below)));
-      sent = subst (λ items. Sent g.L.Local.stands c.args.out.now c.args.out.now (emitted f c.args.from c.args.from) (block_emissions items)) (sym none)
-          (subst (λ all. Sent g.L.Local.stands c.args.out.now c.args.out.now all []) (sym (emitted-none f c.args.from)) (sent_none g.L.Local.stands c.args.out.now []));
+      allowed = All-same (λ p. (p.0 ≤ limit) × (p.1 ≢ negsuc limit)) c.in_ok-block.block.items [] none
+          (λ k d below. absurd (omega (arith, below)));
+      sent = subst (λ items. Sent g.L.Local.stands c.args.out.now c.args.out.now (emitted f c.args.from c.args.from)
+          (block_emissions items)) (sym none)
+          (subst (λ all. Sent g.L.Local.stands c.args.out.now c.args.out.now all []) (sym (emitted-none f c.args.from))
+          (sent_none g.L.Local.stands c.args.out.now []));
       origin = g.met.L.Local.origin_refl _;
     }
 
@@ -32,10 +35,12 @@ returns-in_err-put_sum-clause-err g c =
     let new = c.put_sum.new.out in
     let e = err_from_is_err_and c.from_residual-in_err-put_sum.result c.from_residual-in_err-put_sum.ensures.1 in
     let next = subst (λ l. SentSome stands c.loop-item.out new (waits ++ l)) c.sum.ensures.sum c.in_err-put_sum.ensures.err in
-    let some = some_next stands c.args.out.now c.loop-item.out (emitted f c.args.from item) waits c.loop-item.invariant.sent new (f item) next in
+    let some =
+    some_next stands c.args.out.now c.loop-item.out (emitted f c.args.from item) waits c.loop-item.invariant.sent new (f item) next in
     let whole = some_more stands c.args.out.now new _ (flat_map f (range_with_len (item + 1) (c.args.to - (item + 1)))) some in
     rw e.1 (some_stands stands c.args.out.now new (emitted f c.args.from c.args.to)
-    (subst (SentSome stands c.args.out.now new) (emitted-split f c.args.from item c.args.to c.loop-item.invariant.from c.loop-item-test.true) whole))
+    (subst (SentSome stands c.args.out.now new)
+    (emitted-split f c.args.from item c.args.to c.loop-item.invariant.from c.loop-item-test.true) whole))
 
 pub returns-in_err-put_sum-clause-origin : goal.returns-in_err-put_sum-clause-origin
 returns-in_err-put_sum-clause-origin g c = g.met.L.Local.origin_trans _ _ _ c.loop-item.invariant.origin c.put_sum.ensures.origin
@@ -66,7 +71,8 @@ returns-in_err-emit_block-clause-err g c =
     let e = err_from_is_err_and c.from_residual-in_err-emit_block.result c.from_residual-in_err-emit_block.ensures.1 in
     rw e.1 (some_stands stands c.args.out.now new (emitted f c.args.from c.args.to)
     (subst (λ n. SentSome stands c.args.out.now new (emitted f c.args.from n)) all
-    (sent_some stands c.args.out.now c.loop-item.out _ (block_emissions c.loop-item.block.items) c.loop-item.invariant.sent new c.in_err-emit_block.ensures.err)))
+    (sent_some stands c.args.out.now c.loop-item.out _ (block_emissions c.loop-item.block.items) c.loop-item.invariant.sent new
+    c.in_err-emit_block.ensures.err)))
 
 pub returns-in_err-emit_block-clause-origin : goal.returns-in_err-emit_block-clause-origin
 returns-in_err-emit_block-clause-origin g c = g.met.L.Local.origin_trans _ _ _ c.loop-item.invariant.origin c.emit_block.ensures.origin
@@ -79,4 +85,5 @@ returns-clause-ok g c =
     let all : c.loop-item.item ≡ c.args.to = omega (arith, c.loop-item.auto.item-end, c.loop-item-test.false, c.requires.order) in
     all_stands stands c.args.out.now new (emitted f c.args.from c.args.to)
     (subst (λ n. Sent stands c.args.out.now new (emitted f c.args.from n) []) all
-    (sent_all stands c.args.out.now c.loop-item.out _ (block_emissions c.loop-item.block.items) c.loop-item.invariant.sent new c.in_ok-emit_block.ensures.ok))
+    (sent_all stands c.args.out.now c.loop-item.out _ (block_emissions c.loop-item.block.items) c.loop-item.invariant.sent new
+    c.in_ok-emit_block.ensures.ok))

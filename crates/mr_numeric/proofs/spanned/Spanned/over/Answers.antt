@@ -17,4 +17,5 @@ pub returns-clause-whole : goal.returns-clause-whole
 returns-clause-whole g c =
     let count = g.I.Items.count c.args.items in
     let emits = task_emissions (g.I.Items.emits c.args.items) (range_with_len 0 count) in
-    flat_map-numbered emits c.args.spans (0, 0) ∙ ap (flat_map emits) c.requires.2 ∙ span_tasks (g.I.Items.emits c.args.items) count c.requires.0 c.requires.1
+    flat_map-numbered emits c.args.spans (0, 0) ∙ ap (flat_map emits) c.requires.2
+    ∙ span_tasks (g.I.Items.emits c.args.items) count c.requires.0 c.requires.1
