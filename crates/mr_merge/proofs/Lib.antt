@@ -4,6 +4,7 @@ pub mod Entries
 pub mod Leads
 pub mod Order
 pub mod Plans
+pub mod Printing
 pub mod Rungs
 pub mod Runs
 pub mod Taking

@@ -1,5 +1,6 @@
 -- Lists in the order of their first rows, and what is left of lists that is put to its place among others.
-use Rattle.std.proofs.Common.{◌≡◌, ℕ, zero, suc, ◌<◌, ◌≤◌, Bool, true, false, true≢false, List, [], ◌∷◌, length, map, get_or, refl, sym, ap, ◌∙◌, arith}
+use Rattle.std.proofs.Common.{◌≡◌, ℕ, zero, suc, ◌<◌, ◌≤◌, Bool, true, false, true≢false, List, [], ◌∷◌, length, map, get_or, refl, sym, ap}
+use Rattle.std.proofs.Common.{◌∙◌, arith}
 use Rattle.std.specs.Borrow.{Bor}
 use Rattle.mr_merge.specs.Lists.{lent}
 use Rattle.std.specs.Cmp.{IsStrictWeakOrder}

@@ -1,5 +1,6 @@
 -- Plans: row after row, and range after range.
-use Rattle.std.proofs.Common.{◌≡◌, ℕ, zero, suc, ◌<◌, Bool, false, List, [], ◌∷◌, ◌++◌, length, map, get_or, set, drop, refl, sym, ap, subst, ◌∙◌, arith, append_assoc, append-nil}
+use Rattle.std.proofs.Common.{◌≡◌, ℕ, zero, suc, ◌<◌, Bool, false, List, [], ◌∷◌, ◌++◌, length, map, get_or, set, drop, take, refl, sym, ap}
+use Rattle.std.proofs.Common.{subst, ◌∙◌, arith, append_assoc, append-nil}
 use Rattle.std.specs.Prelude.{Result, Ok, IfOk}
 use Rattle.std.specs.List.{AllByRecursion}
 use Rattle.std.specs.List.Sorted.{IsPermutation}
@@ -7,11 +8,13 @@ use Rattle.std.specs.Borrow.{Bor}
 use Rattle.std.specs.declared.vec.Vec.{Vec}
 use Rattle.std.proofs.lemmas.List.{length-map, length-set, get_or-map}
 use Rattle.std.proofs.lemmas.List.Elements.{All-from_recursion, recursion_from_All}
-use Rattle.std.proofs.lemmas.List.Sorted.{IsPermutation-refl, IsPermutation-trans, IsPermutation-append_right, IsPermutation-middle, All-permutation}
+use Rattle.std.proofs.lemmas.List.Sorted.{IsPermutation-refl, IsPermutation-trans, IsPermutation-append_right, IsPermutation-middle}
+use Rattle.std.proofs.lemmas.List.Sorted.{All-permutation}
 use Rattle.mr_defs.specs.Partitions.{concatenated}
 use Rattle.mr_merge.specs.Lists.{each_with, lent, rows_of}
 use Rattle.mr_merge.specs.Rising.{AreAbove}
 use Rattle.mr_merge.specs.Plans.{IsLeast, IsPlan, IsCut}
+use Rattle.mr_merge.specs.Taken.{taken_rows}
 
 -- the rows of lists of which one loses its first
 pub taken : {X : Type 0} (lists : List (List X)) (i : ℕ) (x : X) (rest : List X) → get_or lists i [] ≡ x ∷ rest → IsPermutation
@@ -96,7 +99,7 @@ module _ {X : Type 0} (lt : X → X → Bool) where
   below_rest rows x all rest p h = recursion_from_All (λ y. AreAbove lt y rows) (x ∷ rest)
       (All-permutation (λ y. AreAbove lt y rows) all (x ∷ rest) p (All-from_recursion (λ y. AreAbove lt y rows) all h))
 
-  planned_both : (fronts backs : List (List X)) (plan more : List ℕ) → length backs ≡ length fronts → AllByRecursion
+  pub planned_both : (fronts backs : List (List X)) (plan more : List ℕ) → length backs ≡ length fronts → AllByRecursion
       (λ x. AreAbove lt x (concatenated backs)) (concatenated fronts) → IsPlan lt fronts plan → IsPlan lt backs more → IsPlan lt
       (each_with fronts backs) (plan ++ more)
   planned_both fronts backs [] more n below h k = subst (λ l. IsPlan lt l more) (sym (with_none fronts backs n h)) k
@@ -114,6 +117,21 @@ module _ {X : Type 0} (lt : X → X → Bool) where
               subst (λ l. IsPlan lt l (plan ++ more)) (sym next)
                   (planned_both (set fronts i xs) backs plan more (n ∙ sym (length-set fronts i xs)) rest.1 r k),
             )
+      ] refl h.0 h.1
+
+  -- the rows that a plan of the fronts takes, and then those that one of the backs takes
+  pub taken_both : (fronts backs : List (List X)) (plan more : List ℕ) → length backs ≡ length fronts → IsPlan lt fronts plan
+      → taken_rows (each_with fronts backs) (plan ++ more) ≡ taken_rows fronts plan ++ taken_rows backs more
+  taken_both fronts backs [] more n h = ap (λ l. taken_rows l more) (with_none fronts backs n h)
+  taken_both fronts backs (i ∷ plan) more n h = elim (get_or fronts i []) as
+      (λ l. get_or fronts i [] ≡ l → IsLeast lt (concatenated fronts) l → IsPlan lt (set fronts i (drop 1 l)) plan
+      → taken_rows (each_with fronts backs) (i ∷ (plan ++ more))
+      ≡ (take 1 l ++ taken_rows (set fronts i (drop 1 l)) plan) ++ taken_rows backs more) [
+        | [] ↦ λ e f r. absurd f
+        | x ∷ xs ↦ λ e f r.
+            ap (λ l. take 1 l ++ taken_rows (set (each_with fronts backs) i (drop 1 l)) (plan ++ more)) (first_with fronts backs i x xs n e)
+            ∙ ap (λ l. x ∷ taken_rows l (plan ++ more)) (set_with fronts backs i xs n)
+            ∙ ap (λ l. x ∷ l) (taken_both (set fronts i xs) backs plan more (n ∙ sym (length-set fronts i xs)) r)
       ] refl h.0 h.1
 
   -- plans of the ranges, one behind the other, are a plan of the lists

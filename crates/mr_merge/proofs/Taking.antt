@@ -1,5 +1,6 @@
 -- Rows that are taken by a plan.
-use Rattle.std.proofs.Common.{◌≡◌, ℕ, ◌<◌, Bool, false, List, [], ◌∷◌, ◌++◌, length, map, get_or, set, drop, refl, sym, ap, subst, ◌∙◌, arith}
+use Rattle.std.proofs.Common.{◌≡◌, ℕ, ◌<◌, Bool, false, List, [], ◌∷◌, ◌++◌, length, map, get_or, set, drop, refl, sym, ap, subst, ◌∙◌}
+use Rattle.std.proofs.Common.{arith}
 use Rattle.std.specs.List.{AllByRecursion, All}
 use Rattle.std.specs.List.Sorted.{IsPermutation}
 use Rattle.std.proofs.lemmas.List.{length-map, length-set}
@@ -33,7 +34,7 @@ module _ {X : Type 0} (lt : X → X → Bool) where
       (record { same = IsPermutation-refl (concatenated lists); rises = tt; above = All-nil (λ x. AreAbove lt x (concatenated lists)) })
 
   -- the same of vectors and of what they are as queues
-  rows_are : {Z : Type 0} (lists : List (Vec X Z)) → concatenated (lists_of lists) ≡ rows_of lists
+  pub rows_are : {Z : Type 0} (lists : List (Vec X Z)) → concatenated (lists_of lists) ≡ rows_of lists
   rows_are [] = refl
   rows_are (l ∷ lists) = ap (λ k. l.items ++ k) (rows_are lists)
 

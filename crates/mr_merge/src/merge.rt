@@ -14,8 +14,8 @@ use std::alloc::Global;
 use std::collections::VecDeque;
 use std::thread::Threads;
 
-// The entries of each list. No row is moved.
-fn entries_of<K: Key>(
+/// The entries of each list. No row is moved.
+pub(crate) fn entries_of<K: Key>(
     alloc: Global,
     mut lists: Few<Rows<K>>,
 ) -> Result<Vec<Vec<(K, Answer)>>, Memory>
@@ -86,8 +86,8 @@ fn merge_by<K: Key, A: Drop>(
     Ok(rows)
 }
 
-// The order of the keys is total: its laws, where threads are at hand.
-fn are_ordered<K: Key>()
+/// The order of the keys is total: its laws, where threads are at hand.
+pub(crate) fn are_ordered<K: Key>()
     ensures { IsTotalOrder K.cmp }
 {}
 

@@ -51,12 +51,12 @@ fn count_rows<T>(lists: &[&[T]]) -> usize {
 
 /// From which list row after row is taken, so that the rows don't fall. What is left of the lists stands in the order of its first rows:
 /// the first gives its row, and goes back to its place among the others.
-pub(crate) fn plan_of<K: Key, A>(alloc: Global, lists: Vec<&[(K, A)]>) -> Result<Vec<usize>, Memory>
-    requires { All (λ l. Rises (rank K.cmp) l.now) lists.items }
-    ensures { IfOk result (λ plan. IsPlan (rank K.cmp) (lent lists.entry.items) plan.items) }
+pub(crate) fn plan_of<K: Key, A>(alloc: Global, lists: &[&[(K, A)]]) -> Result<Vec<usize>, Memory>
+    requires { All (λ l. Rises (rank K.cmp) l.now) lists.now }
+    ensures { IfOk result (λ plan. IsPlan (rank K.cmp) (lent lists.now) plan.items) }
 {
-    let mut runs = runs_of(alloc, &lists)?;
-    let mut plan = Vec::with_capacity(alloc, count_rows(&lists))?;
+    let mut runs = runs_of(alloc, lists)?;
+    let mut plan = Vec::with_capacity(alloc, count_rows(lists))?;
     while let Some((number, rows)) = runs.pop_front() {
         if let Some((_, rest)) = rows.split_first() {
             plan.push(number)?;

@@ -10,8 +10,11 @@ use std::alloc::Global;
 use std::thread;
 use std::thread::Threads;
 
-// The values, where none is missing.
-fn values_of<T: Drop>(alloc: Global, results: Vec<Result<T, Memory>>) -> Result<Vec<T>, Memory>
+/// The values, where none is missing.
+pub(crate) fn values_of<T: Drop>(
+    alloc: Global,
+    results: Vec<Result<T, Memory>>,
+) -> Result<Vec<T>, Memory>
     ensures { IfOk result (λ values. results.items ≡ map Ok values.items) }
 {
     let mut values = Vec::new(alloc);
@@ -46,7 +49,7 @@ pub(crate) fn plan_all<R: Threads + Sync, K: Key + Send + Sync, A: Drop + Send +
     let plan_one = |range: Vec<&[(K, A)]>| -> Result<Vec<usize>, Memory>
         requires { All (λ l. Rises (rank K.cmp) l.now) range.items }
         ensures { IfOk result (λ plan. IsPlan (rank K.cmp) (lent range.entry.items) plan.items) }
-    { plan_of(alloc, range) };
+    { plan_of(alloc, &range) };
     let plans = thread::map_vec(rt, ranges, &plan_one)?;
     let plans = values_of(alloc, plans)?;
     let plan = joined(alloc, plans)?;

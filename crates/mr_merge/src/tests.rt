@@ -4,8 +4,8 @@ ghost use Rattle.std.specs.List.Sorted.{IsStrictlySortedBy};
 ghost use Rattle.std.specs.Ordering.{nat_cmp, eq_by_cmp};
 ghost use Rattle.mr_defs.specs.Partitions.{concatenated};
 
-use crate::merge_all;
-use mr_base::{Answer, Few, Memory, NumKey, Rows};
+use crate::{merge_all, merged_text};
+use mr_base::{Answer, Few, Memory, NumKey, Rows, Text, push_row};
 use std::alloc::Global;
 use std::test::Fail;
 use std::thread::Threads;
@@ -77,7 +77,16 @@ fn rise(rows: &Rows<NumKey>) -> bool {
     true
 }
 
-// Merges lists with so many rows each. Whether all rows came, ascending.
+// The lines of rows.
+fn lines_of(alloc: Global, rows: &Rows<NumKey>) -> Result<Text, Memory> {
+    let mut lines = Text::new(alloc);
+    for i in 0..rows.len() {
+        push_row(&mut lines, rows.key(i), rows.answer(i))?;
+    }
+    Ok(lines)
+}
+
+// Merges lists with so many rows each. Whether all rows came, ascending, and the merged text has just their lines.
 fn is_merged<R: Threads + Sync>(
     rt: &R,
     alloc: Global,
@@ -88,7 +97,10 @@ fn is_merged<R: Threads + Sync>(
 {
     let lists = ladders(alloc, counts)?;
     let rows = merge_all(rt, alloc, lists)?;
-    Ok(rows.len() == all && rise(&rows))
+    let lines = lines_of(alloc, &rows)?;
+    let lists = ladders(alloc, counts)?;
+    let text = merged_text(rt, alloc, lists)?;
+    Ok(rows.len() == all && rise(&rows) && text.as_bytes() == lines.as_bytes())
 }
 
 #[test]

@@ -1,5 +1,6 @@
 -- What a pass takes from its block, and that the blocks joined are all tasks.
-use Rattle.std.proofs.Common.{◌≡◌, ℕ, zero, suc, ◌+◌, ◌-◌, ◌<◌, ◌≤◌, true, false, List, [], ◌∷◌, ◌++◌, length, flat_map, slice_get, slice_index_or, Some, None, refl, sym, ap, ◌∙◌, arith, subst}
+use Rattle.std.proofs.Common.{◌≡◌, ℕ, zero, suc, ◌+◌, ◌-◌, ◌<◌, ◌≤◌, true, false, List, [], ◌∷◌, ◌++◌, length, flat_map, slice_get}
+use Rattle.std.proofs.Common.{slice_index_or, Some, None, refl, sym, ap, ◌∙◌, arith, subst}
 use Rattle.std.specs.List.{range_with_len}
 use Rattle.std.specs.List.Sorted.{IsPermutation}
 use Rattle.std.proofs.lemmas.Bool.Decides.{nat_tests}
@@ -36,18 +37,24 @@ module _ (start next end : ℕ) (low : start ≤ next) (high : next ≤ end) whe
       sym (ap (slice_get (range_with_len start (end - start))) (length-range_with_len start (next - start))
       ∙ range_past start (end - start) (next - start) (omega (arith, low, high, e)))
 
-pub one_more : (start next : ℕ) → start ≤ next → range_with_len start (next - start) ++ next ∷ [] ≡ range_with_len start ((next + 1) - start)
+pub one_more : (start next : ℕ) → start ≤ next
+    → range_with_len start (next - start) ++ next ∷ [] ≡ range_with_len start ((next + 1) - start)
 one_more start next le =
     let last : start + (next - start) ≡ next = omega (arith, le) in
     let more : (next + 1) - start ≡ (next - start) + 1 = omega (arith, le) in
-    sym (ap (range_with_len start) more ∙ range-append start (next - start) 1 ∙ ap (λ k. range_with_len start (next - start) ++ k ∷ []) last)
+    sym (ap (range_with_len start) more ∙ range-append start (next - start) 1
+    ∙ ap (λ k. range_with_len start (next - start) ++ k ∷ []) last)
 
-pub apart_is : (tasks start next end : ℕ) → start ≤ next → next ≤ end → end ≤ tasks → IsApartBelow tasks (range_with_len start (next - start))
+pub apart_is : (tasks start next end : ℕ) → start ≤ next → next ≤ end → end ≤ tasks
+    → IsApartBelow tasks (range_with_len start (next - start))
 apart_is tasks start next end a b d x = let e = times-range x start (next - start) in grind (arith, nat_tests, e, a, b, d)
 
 -- what the passes have from one number on
-all_from : (q : Blocks) (k : ℕ) (ps : List BlockPass) → 0 < q.queues → ((i : ℕ) (d : BlockPass) → i < length ps → IsBlockOf q (slice_index_or ps i d) × ((slice_index_or ps i d).number ≡ k + i) × ((slice_index_or ps i d).ended ≡ true))
-    → flat_map given_of ps ≡ range_with_len (start_of q.tasks q.queues k) (start_of q.tasks q.queues (k + length ps) - start_of q.tasks q.queues k)
+all_from : (q : Blocks) (k : ℕ) (ps : List BlockPass) → 0 < q.queues
+    → ((i : ℕ) (d : BlockPass) → i < length ps
+    → IsBlockOf q (slice_index_or ps i d) × ((slice_index_or ps i d).number ≡ k + i) × ((slice_index_or ps i d).ended ≡ true))
+    → flat_map given_of ps
+    ≡ range_with_len (start_of q.tasks q.queues k) (start_of q.tasks q.queues (k + length ps) - start_of q.tasks q.queues k)
 all_from q k [] pos h = sym (ap (range_with_len (start_of q.tasks q.queues k)) none)
   where
     same : start_of q.tasks q.queues (k + 0) ≡ start_of q.tasks q.queues k
@@ -55,7 +62,8 @@ all_from q k [] pos h = sym (ap (range_with_len (start_of q.tasks q.queues k)) n
 
     none : start_of q.tasks q.queues (k + 0) - start_of q.tasks q.queues k ≡ 0
     none = omega (arith, same)
-all_from q k (p ∷ ps) pos h = joins (all_from q (k + 1) ps pos (λ i d lt. let t = h (suc i) d (omega (arith, lt)) in (t.0, (let e = t.1 in omega (arith, e)), t.2)))
+all_from q k (p ∷ ps) pos h =
+    joins (all_from q (k + 1) ps pos (λ i d lt. let t = h (suc i) d (omega (arith, lt)) in (t.0, (let e = t.1 in omega (arith, e)), t.2)))
   where
     here : IsBlockOf q p × (p.number ≡ k + 0) × (p.ended ≡ true)
     here = h zero p (omega arith)
@@ -88,21 +96,27 @@ all_from q k (p ∷ ps) pos h = joins (all_from q (k + 1) ps pos (λ i d lt. let
         let w = start_up q.tasks q.queues (k + 1) (k + 1 + length ps) pos (omega arith) in
         omega (arith, z, u, w)
 
-    joins : flat_map given_of ps ≡ range_with_len b (c - b) → flat_map given_of (p ∷ ps) ≡ range_with_len a (start_of q.tasks q.queues (k + suc (length ps)) - a)
+    joins : flat_map given_of ps ≡ range_with_len b (c - b)
+        → flat_map given_of (p ∷ ps) ≡ range_with_len a (start_of q.tasks q.queues (k + suc (length ps)) - a)
     joins rest =
         (λ i. range_with_len (st i) (en i - st i) ++ flat_map given_of ps)
         ∙ ap (λ l. range_with_len a (b - a) ++ l) (rest ∙ ap (λ n. range_with_len n (c - b)) (sym cut))
         ∙ sym (range-append a (b - a) (c - b))
         ∙ ap (range_with_len a) sums
 
-pub all_given : (q : Blocks) (ps : List BlockPass) → 0 < q.queues → AreAll q.queues (IsBlockOf q) (λ (p : BlockPass). p.number) ps → HaveEnded (λ (p : BlockPass). p.ended) ps → AreAllGiven q.tasks given_of ps
+pub all_given : (q : Blocks) (ps : List BlockPass) → 0 < q.queues → AreAll q.queues (IsBlockOf q) (λ (p : BlockPass). p.number) ps
+    → HaveEnded (λ (p : BlockPass). p.ended) ps → AreAllGiven q.tasks given_of ps
 all_given q ps pos all ended =
     let n = all.0 in
-    let joined = all_from q 0 ps pos (λ i d lt. let r = all.1 i d (omega (arith, lt, n)) in (r.0, (let e = r.1 in omega (arith, e)), ended i d lt)) in
+    let joined = all_from q 0 ps pos
+    (λ i d lt. let r = all.1 i d (omega (arith, lt, n)) in (r.0, (let e = r.1 in omega (arith, e)), ended i d lt)) in
     let first = start_zero q.tasks q.queues in
-    let last : start_of q.tasks q.queues (0 + length ps) ≡ q.tasks = ap (start_of q.tasks q.queues) (omega (arith, n)) ∙ start_last q.tasks q.queues pos in
+    let last : start_of q.tasks q.queues (0 + length ps) ≡ q.tasks =
+    ap (start_of q.tasks q.queues) (omega (arith, n)) ∙ start_last q.tasks q.queues pos in
     let long : start_of q.tasks q.queues (0 + length ps) - start_of q.tasks q.queues 0 ≡ q.tasks = omega (arith, first, last) in
-    let is : flat_map given_of ps ≡ range_with_len 0 q.tasks = joined ∙ ap (λ m. range_with_len m (start_of q.tasks q.queues (0 + length ps) - start_of q.tasks q.queues 0)) first ∙ ap (range_with_len 0) long in
+    let is : flat_map given_of ps ≡ range_with_len 0 q.tasks = joined
+    ∙ ap (λ m. range_with_len m (start_of q.tasks q.queues (0 + length ps) - start_of q.tasks q.queues 0)) first
+    ∙ ap (range_with_len 0) long in
     subst (IsPermutation (range_with_len 0 q.tasks)) (sym is) (IsPermutation-refl (range_with_len 0 q.tasks))
 
 -- passes so far, none of which has taken a task
@@ -113,10 +127,13 @@ Opening tasks queues number ps = (length ps ≡ number) × ((i : ℕ) (d : Block
 no_end : false ≡ true → ⊥
 no_end e = cc
 
-pub opened : (q : Blocks) (ps : List BlockPass) → Opening q.tasks q.queues q.queues ps → AreAll q.queues (IsBlockOf q) (λ (p : BlockPass). p.number) ps
+pub opened : (q : Blocks) (ps : List BlockPass) → Opening q.tasks q.queues q.queues ps
+    → AreAll q.queues (IsBlockOf q) (λ (p : BlockPass). p.number) ps
 opened q ps so = (so.0, λ i d lt. let p = so.1 i d lt in (is_block i (slice_index_or ps i d) lt p, p.0))
   where
-    is_block : (i : ℕ) (p : BlockPass) → i < q.queues → (p.number ≡ i) × (p.start ≡ start_of q.tasks q.queues i) × (p.next ≡ p.start) × (p.end ≡ start_of q.tasks q.queues (i + 1)) × (p.ended ≡ false) → IsBlockOf q p
+    is_block : (i : ℕ) (p : BlockPass) → i < q.queues
+        → (p.number ≡ i) × (p.start ≡ start_of q.tasks q.queues i) × (p.next ≡ p.start) × (p.end ≡ start_of q.tasks q.queues (i + 1))
+        × (p.ended ≡ false) → IsBlockOf q p
     is_block i p lt h =
         let some : 0 < q.queues = omega (arith, lt) in
         let up = start_up q.tasks q.queues i (i + 1) some (omega arith) in
@@ -126,5 +143,13 @@ opened q ps so = (so.0, λ i d lt. let p = so.1 i d lt in (is_block i (slice_ind
         let en : p.end ≡ start_of q.tasks q.queues (p.number + 1) = d ∙ ap (λ n. start_of q.tasks q.queues (n + 1)) (sym a) in
         let low : p.start ≤ p.next = omega (arith, c) in
         let high : p.next ≤ p.end = omega (arith, b, c, d, up) in
-        let top : p.end ≤ q.tasks = omega (arith, d, below) in
-        (omega (arith, a, lt), st, en, low, high, top, (λ yes. absurd (no_end (sym h.4 ∙ yes))), apart_is q.tasks p.start p.next p.end low high top)
+        let top : p.end ≤ q.tasks = omega (arith, d, below) in (
+          omega (arith, a, lt),
+          st,
+          en,
+          low,
+          high,
+          top,
+          (λ yes. absurd (no_end (sym h.4 ∙ yes))),
+          apart_is q.tasks p.start p.next p.end low high top,
+        )

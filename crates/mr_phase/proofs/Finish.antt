@@ -19,11 +19,13 @@ pub rows_same : {K : Type 0} (ps : List (Partition K)) → map (λ q. q.0) (map 
 rows_same [] = refl
 rows_same (p ∷ ps) = ap (λ l. p.rows ∷ l) (rows_same ps)
 
-pub over_same : {K : Type 0} (op : K → K → K) (ps : List (Partition K)) → joined_by op (λ q. q.1) (map pair_of ps) ≡ joined_by op (λ p. p.over) ps
+pub over_same : {K : Type 0} (op : K → K → K) (ps : List (Partition K))
+    → joined_by op (λ q. q.1) (map pair_of ps) ≡ joined_by op (λ p. p.over) ps
 over_same op [] = refl
 over_same op (p ∷ ps) = ap (joined op p.over) (over_same op ps)
 
-module _ {K C : Type 0} {R : K → K → Ordering} (o : IsTotalOrder R) (one : IsAntisymmetric R) (whole : K → Option C) (part_of : K → ℕ) (over : C → Bool) (answer : C → Answer) where
+module _ {K C : Type 0} {R : K → K → Ordering} (o : IsTotalOrder R) (one : IsAntisymmetric R) (whole : K → Option C) (part_of : K → ℕ)
+    (over : C → Bool) (answer : C → Answer) where
   abbrev From : ℕ → List (Partition K) → Type 0
   From from ps = (i : ℕ) (p : Partition K) → i < length ps → p ≡ get_or ps i p → IsReducedAt R whole part_of over answer (from + i) p
 
@@ -42,11 +44,14 @@ module _ {K C : Type 0} {R : K → K → Ordering} (o : IsTotalOrder R) (one : I
 
   ascend_from : (from : ℕ) (ps : List (Partition K)) → From from ps → All Ascends (map (λ q. q.0) (map pair_of ps))
   ascend_from from [] h = All-nil Ascends
-  ascend_from from (p ∷ ps) h = All-cons Ascends p.rows (map (λ q. q.0) (map pair_of ps)) (first from p ps h).0 (ascend_from (suc from) ps (later from p ps h))
+  ascend_from from (p ∷ ps) h =
+      All-cons Ascends p.rows (map (λ q. q.0) (map pair_of ps)) (first from p ps h).0 (ascend_from (suc from) ps (later from p ps h))
 
-  at_zero : (ps : List (Partition K)) → ((i : ℕ) (p : Partition K) → i < length ps → p ≡ get_or ps i p → IsReducedAt R whole part_of over answer i p) → From 0 ps
+  at_zero : (ps : List (Partition K))
+      → ((i : ℕ) (p : Partition K) → i < length ps → p ≡ get_or ps i p → IsReducedAt R whole part_of over answer i p) → From 0 ps
   at_zero ps h i p b e = subst (λ n. IsReducedAt R whole part_of over answer n p) (omega arith) (h i p b e)
 
-  pub parts : (ps : List (Partition K)) → ((i : ℕ) (p : Partition K) → i < length ps → p ≡ get_or ps i p → IsReducedAt R whole part_of over answer i p)
+  pub parts : (ps : List (Partition K))
+      → ((i : ℕ) (p : Partition K) → i < length ps → p ≡ get_or ps i p → IsReducedAt R whole part_of over answer i p)
       → AreParts o one whole part_of over answer 0 (map pair_of ps) × All Ascends (map (λ q. q.0) (map pair_of ps))
   parts ps h = (parts_from 0 ps (at_zero ps h), ascend_from 0 ps (at_zero ps h))

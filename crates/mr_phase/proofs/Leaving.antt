@@ -15,9 +15,11 @@ laws : IsCommutative (lesser nat_cmp)
 laws = lesser_commutative nat_cmp_total nat_cmp-IsAntisymmetric
 
 -- items that are turned round
-pub turning : {X : Type 0} (all now left turned turned' : List X) (x : X) → all ≡ now ++ reverse turned → now ≡ left ++ x ∷ [] → turned' ≡ turned ++ x ∷ [] → all ≡ left ++ reverse turned'
+pub turning : {X : Type 0} (all now left turned turned' : List X) (x : X) → all ≡ now ++ reverse turned → now ≡ left ++ x ∷ []
+    → turned' ≡ turned ++ x ∷ [] → all ≡ left ++ reverse turned'
 turning all now left turned turned' x was now_is is =
-    was ∙ ap (λ l. l ++ reverse turned) now_is ∙ append_assoc left (x ∷ []) (reverse turned) ∙ ap (λ l. left ++ l) (sym (reverse-append turned (x ∷ []))) ∙ ap (λ l. left ++ reverse l) (sym is)
+    was ∙ ap (λ l. l ++ reverse turned) now_is ∙ append_assoc left (x ∷ []) (reverse turned)
+    ∙ ap (λ l. left ++ l) (sym (reverse-append turned (x ∷ []))) ∙ ap (λ l. left ++ reverse l) (sym is)
 
 pub is_turned : {X : Type 0} (all left turned : List X) → all ≡ left ++ reverse turned → left ≡ [] → turned ≡ reverse all
 is_turned all left turned was none = sym (reverse-reverse turned) ∙ ap reverse (sym (was ∙ ap (λ l. l ++ reverse turned) none))
@@ -31,7 +33,8 @@ module _ {H A B : Type 0} (f : H → A) (g : H → B) (noted : H → Noted ℕ) 
     pub gs_are : gs ≡ map g gone
     pub faults_are : faults ≡ noted_all nat_cmp noted gone
 
-  pub begins : (all : List H) (faults : Noted ℕ) → faults.malformed ≡ None → faults.outside ≡ None → faults.twice ≡ None → faults.over ≡ None → Leaving all all [] [] faults
+  pub begins : (all : List H) (faults : Noted ℕ) → faults.malformed ≡ None → faults.outside ≡ None → faults.twice ≡ None
+      → faults.over ≡ None → Leaving all all [] [] faults
   begins all faults m o t v = record {
     gone = [];
     is = sym (append-nil all);
@@ -40,15 +43,21 @@ module _ {H A B : Type 0} (f : H → A) (g : H → B) (noted : H → Noted ℕ) 
     faults_are = λ i. record { malformed = m i; outside = o i; twice = t i; over = v i };
   }
 
-  field : (read : Noted ℕ → Option ℕ) (gone : List H) (h : H) (before more after : Noted ℕ) → read after ≡ joined (lesser nat_cmp) (read before) (read more) → before ≡ noted_all nat_cmp noted gone
-      → read (noted_all nat_cmp noted gone) ≡ joined_by (lesser nat_cmp) (λ x. read (noted x)) gone → more ≡ noted h → read after ≡ joined_by (lesser nat_cmp) (λ x. read (noted x)) (gone ++ h ∷ [])
+  field : (read : Noted ℕ → Option ℕ) (gone : List H) (h : H) (before more after : Noted ℕ)
+      → read after ≡ joined (lesser nat_cmp) (read before) (read more) → before ≡ noted_all nat_cmp noted gone
+      → read (noted_all nat_cmp noted gone) ≡ joined_by (lesser nat_cmp) (λ x. read (noted x)) gone → more ≡ noted h
+      → read after ≡ joined_by (lesser nat_cmp) (λ x. read (noted x)) (gone ++ h ∷ [])
   field read gone h before more after e was all is =
       e ∙ ap (λ b. joined (lesser nat_cmp) (read b) (read more)) was ∙ ap (λ b. joined (lesser nat_cmp) b (read more)) all
-      ∙ ap (λ m. joined (lesser nat_cmp) (joined_by (lesser nat_cmp) (λ x. read (noted x)) gone) (read m)) is ∙ sym (joined_by-push laws (λ x. read (noted x)) gone h)
+      ∙ ap (λ m. joined (lesser nat_cmp) (joined_by (lesser nat_cmp) (λ x. read (noted x)) gone) (read m)) is
+      ∙ sym (joined_by-push laws (λ x. read (noted x)) gone h)
 
-  pub goes_on : (all now left : List H) (h : H) (fs fs' : List A) (gs gs' : List B) (before more after : Noted ℕ) → Leaving all now fs gs before → now ≡ left ++ h ∷ [] → fs' ≡ fs ++ f h ∷ [] → gs' ≡ gs ++ g h ∷ []
-      → after.malformed ≡ joined (lesser nat_cmp) before.malformed more.malformed → after.outside ≡ joined (lesser nat_cmp) before.outside more.outside
-      → after.twice ≡ joined (lesser nat_cmp) before.twice more.twice → after.over ≡ joined (lesser nat_cmp) before.over more.over → more ≡ noted h → Leaving all left fs' gs' after
+  pub goes_on : (all now left : List H) (h : H) (fs fs' : List A) (gs gs' : List B) (before more after : Noted ℕ)
+      → Leaving all now fs gs before → now ≡ left ++ h ∷ [] → fs' ≡ fs ++ f h ∷ [] → gs' ≡ gs ++ g h ∷ []
+      → after.malformed ≡ joined (lesser nat_cmp) before.malformed more.malformed
+      → after.outside ≡ joined (lesser nat_cmp) before.outside more.outside
+      → after.twice ≡ joined (lesser nat_cmp) before.twice more.twice → after.over ≡ joined (lesser nat_cmp) before.over more.over
+      → more ≡ noted h → Leaving all left fs' gs' after
   goes_on all now left h fs fs' gs gs' before more after was now_is fs_is gs_is m o t v is =
       let a = field (λ n. n.malformed) was.gone h before more after m was.faults_are refl is in
       let b = field (λ n. n.outside) was.gone h before more after o was.faults_are refl is in

@@ -1,3 +1,4 @@
+pub mod InTurn
 pub mod Blocking
 pub mod Taken
 pub mod Sorts

@@ -1,5 +1,6 @@
 -- Numbers of a list by how often each stands there: the least of them, and those that pass a test.
-use Rattle.std.proofs.Common.{◌≡◌, ℕ, ℤ, ◌+◌, ◌≤◌, ◌==◌, Bool, true, false, not, cond, T, List, [], ◌∷◌, filter, Contains, All, Option, Some, None, refl, sym, ap, subst, ◌∙◌, arith}
+use Rattle.std.proofs.Common.{◌≡◌, ℕ, ℤ, ◌+◌, ◌≤◌, ◌==◌, Bool, true, false, not, cond, T, List, [], ◌∷◌, filter, Contains, All, Option}
+use Rattle.std.proofs.Common.{Some, None, refl, sym, ap, subst, ◌∙◌, arith}
 use Rattle.std.specs.Prelude.{count_by}
 use Rattle.std.specs.List.{list_any, AllByRecursion}
 use Rattle.std.specs.List.Sorted.{IsStrictlySortedBy}
@@ -81,7 +82,9 @@ at_most_once k [] s = omega arith
 at_most_once k (x ∷ xs) s =
     let r = at_most_once k xs (both_second (below_all nat_cmp x (marked xs)) (is_sorted nat_cmp (marked xs)) s) in
     dite (ℕ_discrete x k)
-    (λ same. let z : times k xs ≡ 0 = subst (λ q. times q xs ≡ 0) same (none_below x xs (both_first (below_all nat_cmp x (marked xs)) (is_sorted nat_cmp (marked xs)) s)) in grind (arith, nat_tests, z, same))
+    (λ same. let z : times k xs
+    ≡ 0 = subst (λ q. times q xs ≡ 0) same
+    (none_below x xs (both_first (below_all nat_cmp x (marked xs)) (is_sorted nat_cmp (marked xs)) s)) in grind (arith, nat_tests, z, same))
     (λ other. grind (arith, nat_tests, r, other))
 
 -- numbers that ascend, as entries
@@ -117,7 +120,8 @@ pub none_least : (xs : List ℕ) → least nat_cmp xs ≡ None → (k : ℕ) →
 none_least xs e = subst (IsLeastOf xs) e (least_is xs)
 
 -- lists of the same numbers have the same least
-pub same_least : (xs ys : List ℕ) → ((k : ℕ) → 1 ≤ times k xs → 1 ≤ times k ys) → ((k : ℕ) → 1 ≤ times k ys → 1 ≤ times k xs) → least nat_cmp xs ≡ least nat_cmp ys
+pub same_least : (xs ys : List ℕ) → ((k : ℕ) → 1 ≤ times k xs → 1 ≤ times k ys) → ((k : ℕ) → 1 ≤ times k ys → 1 ≤ times k xs)
+    → least nat_cmp xs ≡ least nat_cmp ys
 same_least xs ys to from = by (least nat_cmp xs) (least nat_cmp ys) (least_is xs) (least_is ys)
   where
     by : (o p : Option ℕ) → IsLeastOf xs o → IsLeastOf ys p → o ≡ p

@@ -1,5 +1,6 @@
 -- Numbers that don't fall and stand each once below n are the numbers below n in their order.
-use Rattle.std.proofs.Common.{◌≡◌, ℕ, zero, suc, ◌+◌, ◌<◌, ◌≤◌, ◌==◌, true, false, cond, nat_lt, List, [], ◌∷◌, length, get_or, refl, ap₂, subst, ◌∙◌, arith}
+use Rattle.std.proofs.Common.{◌≡◌, ℕ, zero, suc, ◌+◌, ◌<◌, ◌≤◌, ◌==◌, true, false, cond, nat_lt, List, [], ◌∷◌, length, get_or, refl, ap₂}
+use Rattle.std.proofs.Common.{subst, ◌∙◌, arith}
 use Rattle.std.specs.List.{AllByRecursion, range_with_len}
 use Rattle.std.proofs.lemmas.Bool.Decides.{nat_tests}
 use Rattle.std.specs.List.Sorted.{IsPermutation}
@@ -18,10 +19,12 @@ bound : (a y : ℕ) (ys : List ℕ) → 1 ≤ times a ys → AllByRecursion (λ 
 bound a y [] h all = absurd (omega (arith, h))
 bound a y (z ∷ zs) h all = elim (z == a) as (λ b. (z == a) ≡ b → y ≤ a) [
   | true ↦ λ e. let same : z ≡ a = grind (arith, nat_tests, e) in omega (arith, same, all.0)
-  | false ↦ λ e. bound a y zs (let q : 1 ≤ cond false 1 0 + times a zs = subst (λ b. 1 ≤ cond b 1 0 + times a zs) e h in omega (arith, q)) all.1
+  | false ↦ λ e. bound a y zs
+      (let q : 1 ≤ cond false 1 0 + times a zs = subst (λ b. 1 ≤ cond b 1 0 + times a zs) e h in omega (arith, q)) all.1
 ] refl
 
-in_order : (n a : ℕ) (xs : List ℕ) → ((x : ℕ) → times x xs ≡ cond (nat_lt x a) 0 (cond (nat_lt x (a + n)) 1 0)) → Rises xs → xs ≡ range_with_len a n
+in_order : (n a : ℕ) (xs : List ℕ) → ((x : ℕ) → times x xs ≡ cond (nat_lt x a) 0 (cond (nat_lt x (a + n)) 1 0)) → Rises xs
+    → xs ≡ range_with_len a n
 in_order zero a [] h r = refl
 in_order zero a (y ∷ ys) h r = let i = itself y ys in let e = h y in absurd (grind (arith, nat_tests, i, e))
 in_order (suc n) a [] h r = let e = h a in absurd (grind (arith, nat_tests, e))
@@ -42,7 +45,11 @@ rises_from x (y ∷ ys) h = (h 0 y (omega arith), rises_from x ys (λ j d lt. h 
 
 rises_each : (xs : List ℕ) → ((i j : ℕ) (d : ℕ) → i < j → j < length xs → get_or xs i d ≤ get_or xs j d) → Rises xs
 rises_each [] h = tt
-rises_each (x ∷ xs) h = (rises_from x xs (λ j d lt. h 0 (suc j) d (omega arith) (omega (arith, lt))), rises_each xs (λ i j d p lt. h (suc i) (suc j) d (omega (arith, p)) (omega (arith, lt))))
+rises_each (x ∷ xs) h = (
+  rises_from x xs (λ j d lt. h 0 (suc j) d (omega arith) (omega (arith, lt))),
+  rises_each xs (λ i j d p lt. h (suc i) (suc j) d (omega (arith, p)) (omega (arith, lt))),
+)
 
-pub all_in_order : (n : ℕ) (xs : List ℕ) → IsPermutation (range_with_len 0 n) xs → ((i j : ℕ) (d : ℕ) → i < j → j < length xs → get_or xs i d ≤ get_or xs j d) → xs ≡ range_with_len 0 n
+pub all_in_order : (n : ℕ) (xs : List ℕ) → IsPermutation (range_with_len 0 n) xs
+    → ((i j : ℕ) (d : ℕ) → i < j → j < length xs → get_or xs i d ≤ get_or xs j d) → xs ≡ range_with_len 0 n
 all_in_order n xs p up = in_order n 0 xs (λ x. times-permuted x (range_with_len 0 n) xs p ∙ times-range x 0 n) (rises_each xs up)

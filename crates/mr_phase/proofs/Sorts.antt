@@ -1,5 +1,6 @@
 -- The order of the workers turns round twice.
-use Rattle.std.proofs.Common.{◌≡◌, ℕ, zero, suc, ◌+◌, ◌-◌, ◌<◌, Bool, true, false, List, [], ◌∷◌, ◌++◌, length, length-append, slice_index_or, slice_get, Some, All, flat_map, take, drop, refl, sym, ap, ◌∙◌, arith, subst}
+use Rattle.std.proofs.Common.{◌≡◌, ℕ, zero, suc, ◌+◌, ◌-◌, ◌<◌, Bool, true, false, List, [], ◌∷◌, ◌++◌, length, length-append}
+use Rattle.std.proofs.Common.{slice_index_or, slice_get, Some, All, flat_map, take, drop, refl, sym, ap, ◌∙◌, arith, subst}
 use mathlib.Core.Logic.{dite}
 use native.Mathlib.Decide.{dec_lt}
 use Rattle.mr_phase.specs.declared.map.Work.{Work}
@@ -17,17 +18,22 @@ StartsAt {X} part all = (i : ℕ) (d : X) → i < length part → slice_index_or
 
 -- worker i has the i-th pass and local from the end
 abbrev pub Placed : {P L : Type 0} → List P → List L → ℕ → Work P L → Type 0
-Placed {P} {L} passes locals i w = (w.worker ≡ length passes - (i + 1)) × (w.pass ≡ slice_index_or passes (length passes - (i + 1)) w.pass) × (w.local ≡ slice_index_or locals (length passes - (i + 1)) w.local) × (w.tasks.items ≡ []) × (w.starved ≡ false)
+Placed {P} {L} passes locals i w = (w.worker ≡ length passes - (i + 1)) × (w.pass ≡ slice_index_or passes (length passes - (i + 1)) w.pass)
+    × (w.local ≡ slice_index_or locals (length passes - (i + 1)) w.local) × (w.tasks.items ≡ []) × (w.starved ≡ false)
 
 abbrev pub Gathering : {P L : Type 0} → List P → List L → List P → List L → List (Work P L) → Type 0
-Gathering {P} {L} passes locals left rest works = (length left ≡ length rest) × (length left + length works ≡ length passes) × StartsAt left passes × StartsAt rest locals
+Gathering {P} {L} passes locals left rest works =
+    (length left ≡ length rest) × (length left + length works ≡ length passes) × StartsAt left passes × StartsAt rest locals
     × ((i : ℕ) (d : Work P L) → i < length works → let w = slice_index_or works i d in
-    (w.worker ≡ length passes - (i + 1)) × (w.pass ≡ slice_index_or passes (length passes - (i + 1)) w.pass) × (w.local ≡ slice_index_or locals (length passes - (i + 1)) w.local) × (w.tasks.items ≡ []) × (w.starved ≡ false))
+    (w.worker ≡ length passes - (i + 1)) × (w.pass ≡ slice_index_or passes (length passes - (i + 1)) w.pass)
+    × (w.local ≡ slice_index_or locals (length passes - (i + 1)) w.local) × (w.tasks.items ≡ []) × (w.starved ≡ false))
 
 abbrev pub Scattering : {P L : Type 0} → List (Work P L) → List (Work P L) → List P → List (Hand L) → Type 0
-Scattering {P} {L} works left passes hands = (length left + length passes ≡ length works) × (length hands ≡ length passes) × StartsAt left works
+Scattering {P} {L} works left passes hands =
+    (length left + length passes ≡ length works) × (length hands ≡ length passes) × StartsAt left works
     × ((i : ℕ) (d : Work P L) (p : P) (h : Hand L) → i < length passes → let w = slice_index_or works (length works - (i + 1)) d in
-    (slice_index_or passes i p ≡ w.pass) × ((slice_index_or hands i h).tasks ≡ w.tasks) × ((slice_index_or hands i h).local ≡ w.local) × (w.starved ≡ false))
+    (slice_index_or passes i p ≡ w.pass) × ((slice_index_or hands i h).tasks ≡ w.tasks) × ((slice_index_or hands i h).local ≡ w.local)
+    × (w.starved ≡ false))
 
 last_is : {X : Type 0} (xs : List X) (x d : X) (i : ℕ) → i ≡ length xs → slice_index_or (xs ++ x ∷ []) i d ≡ x
 last_is [] x d zero e = refl
@@ -46,7 +52,8 @@ len_snoc xs x = let e = length-append xs (x ∷ []) in omega (arith, e)
 pub one_longer : {X : Type 0} (xs ys : List X) (x : X) → ys ≡ xs ++ x ∷ [] → length ys ≡ length xs + 1
 one_longer xs ys x is = ap length is ∙ len_snoc xs x
 
-scatters : {P L : Type 0} (works left : List (Work P L)) (w : Work P L) (passes : List P) (hands : List (Hand L)) → Scattering works (left ++ w ∷ []) passes hands → w.starved ≡ false
+scatters : {P L : Type 0} (works left : List (Work P L)) (w : Work P L) (passes : List P) (hands : List (Hand L))
+    → Scattering works (left ++ w ∷ []) passes hands → w.starved ≡ false
     → Scattering works left (passes ++ w.pass ∷ []) (hands ++ record { tasks = w.tasks; local = w.local } ∷ [])
 scatters {P} {L} works left w passes hands s ok =
     let n = len_snoc left w in
@@ -54,7 +61,8 @@ scatters {P} {L} works left w passes hands s ok =
     let hand : Hand L = record { tasks = w.tasks; local = w.local } in
     let nh = len_snoc hands hand in
     let s0 = s.0 in let s1 = s.1 in
-    let here : (d : Work P L) → slice_index_or works (length left) d ≡ w = λ d. s.2 (length left) d (omega (arith, n)) ∙ last_is left w d (length left) refl in (
+    let here : (d : Work P L) → slice_index_or works (length left) d ≡ w =
+    λ d. s.2 (length left) d (omega (arith, n)) ∙ last_is left w d (length left) refl in (
       omega (arith, n, np, s0),
       omega (arith, np, nh, s1),
       (λ i d lt. s.2 i d (omega (arith, lt, n)) ∙ before_is left w d i lt),
@@ -77,23 +85,30 @@ scatters {P} {L} works left w passes hands s ok =
     )
 
 -- the worker that is equipped with the last pass and local
-pub gathers : {P L : Type 0} (passes : List P) (locals : List L) (now left : List P) (nows rest : List L) (p : P) (l : L) (works works' : List (Work P L)) (w : Work P L) → Gathering passes locals now nows works
-    → now ≡ left ++ p ∷ [] → nows ≡ rest ++ l ∷ [] → works' ≡ works ++ w ∷ [] → (w.worker ≡ length left) × (w.pass ≡ p) × (w.local ≡ l) × (w.tasks.items ≡ []) × (w.starved ≡ false)
+pub gathers : {P L : Type 0} (passes : List P) (locals : List L) (now left : List P) (nows rest : List L) (p : P) (l : L)
+    (works works' : List (Work P L)) (w : Work P L) → Gathering passes locals now nows works
+    → now ≡ left ++ p ∷ [] → nows ≡ rest ++ l ∷ [] → works' ≡ works ++ w ∷ []
+    → (w.worker ≡ length left) × (w.pass ≡ p) × (w.local ≡ l) × (w.tasks.items ≡ []) × (w.starved ≡ false)
     → Gathering passes locals left rest works'
 gathers {P} {L} passes locals now left nows rest p l works works' w s is is' put has =
     let n = ap length is ∙ len_snoc left p in
     let m = ap length is' ∙ len_snoc rest l in
     let k = ap length put ∙ len_snoc works w in
     let s0 = s.0 in let s1 = s.1 in
-    let low : StartsAt left passes = λ i d lt. s.2 i d (omega (arith, lt, n)) ∙ ap (λ xs. slice_index_or xs i d) is ∙ before_is left p d i lt in
-    let low' : StartsAt rest locals = λ i d lt. s.3 i d (omega (arith, lt, m)) ∙ ap (λ xs. slice_index_or xs i d) is' ∙ before_is rest l d i lt in
-    let here : (d : P) → slice_index_or passes (length left) d ≡ p = λ d. s.2 (length left) d (omega (arith, n)) ∙ ap (λ xs. slice_index_or xs (length left) d) is ∙ last_is left p d (length left) refl in
-    let here' : (d : L) → slice_index_or locals (length left) d ≡ l = λ d. s.3 (length left) d (omega (arith, n, s0)) ∙ ap (λ xs. slice_index_or xs (length left) d) is' ∙ last_is rest l d (length left) (omega (arith, n, m, s0)) in (
+    let low : StartsAt left passes =
+    λ i d lt. s.2 i d (omega (arith, lt, n)) ∙ ap (λ xs. slice_index_or xs i d) is ∙ before_is left p d i lt in
+    let low' : StartsAt rest locals =
+    λ i d lt. s.3 i d (omega (arith, lt, m)) ∙ ap (λ xs. slice_index_or xs i d) is' ∙ before_is rest l d i lt in
+    let here : (d : P) → slice_index_or passes (length left) d ≡ p = λ d. s.2 (length left) d (omega (arith, n))
+    ∙ ap (λ xs. slice_index_or xs (length left) d) is ∙ last_is left p d (length left) refl in
+    let here' : (d : L) → slice_index_or locals (length left) d ≡ l = λ d. s.3 (length left) d (omega (arith, n, s0))
+    ∙ ap (λ xs. slice_index_or xs (length left) d) is' ∙ last_is rest l d (length left) (omega (arith, n, m, s0)) in (
       omega (arith, n, m, s0),
       omega (arith, n, k, s1),
       low,
       low',
-      λ i d lt. let at : slice_index_or works' i d ≡ slice_index_or (works ++ w ∷ []) i d = ap (λ xs. slice_index_or xs i d) put in dite (dec_lt i (length works))
+      λ i d lt. let at : slice_index_or works' i d ≡ slice_index_or (works ++ w ∷ []) i d = ap (λ xs. slice_index_or xs i d) put in
+          dite (dec_lt i (length works))
           (λ below. subst (Placed passes locals i) (sym (at ∙ before_is works w d i below)) (s.4 i d below))
           (λ no. let e : i ≡ length works = omega (arith, no, lt, k) in
           let j : length left ≡ length passes - (i + 1) = omega (arith, e, s1, n) in
@@ -106,13 +121,17 @@ gathers {P} {L} passes locals now left nows rest p l works works' w s is is' put
           )),
     )
 
-pub scatters_at : {P L : Type 0} (works now left : List (Work P L)) (w : Work P L) (passes passes' : List P) (hands hands' : List (Hand L)) → Scattering works now passes hands → now ≡ left ++ w ∷ [] → w.starved ≡ false
-    → passes' ≡ passes ++ w.pass ∷ [] → hands' ≡ hands ++ record { tasks = w.tasks; local = w.local } ∷ [] → Scattering works left passes' hands'
+pub scatters_at : {P L : Type 0} (works now left : List (Work P L)) (w : Work P L) (passes passes' : List P) (hands hands' : List (Hand L))
+    → Scattering works now passes hands → now ≡ left ++ w ∷ [] → w.starved ≡ false
+    → passes' ≡ passes ++ w.pass ∷ [] → hands' ≡ hands ++ record { tasks = w.tasks; local = w.local } ∷ []
+    → Scattering works left passes' hands'
 scatters_at {P} {L} works now left w passes passes' hands hands' s is ok ps hs =
     let F : List P × List (Hand L) → Type 0 = λ y. Scattering works left y.0 y.1 in
-    subst F (λ i. (sym ps i, sym hs i)) (scatters works left w passes hands (subst (λ (l : List (Work P L)). Scattering works l passes hands) is s) ok)
+    subst F (λ i. (sym ps i, sym hs i))
+    (scatters works left w passes hands (subst (λ (l : List (Work P L)). Scattering works l passes hands) is s) ok)
 
-pub scattered : {P L : Type 0} (works left : List (Work P L)) (passes : List P) (hands : List (Hand L)) → Scattering works left passes hands → left ≡ [] → AreFrom works passes hands
+pub scattered : {P L : Type 0} (works left : List (Work P L)) (passes : List P) (hands : List (Hand L))
+    → Scattering works left passes hands → left ≡ [] → AreFrom works passes hands
 scattered works left passes hands s none =
     let n = ap length none in let s0 = s.0 in let s1 = s.1 in
     (omega (arith, n, s0), omega (arith, n, s0, s1), λ i d p h lt. s.3 i d p h (omega (arith, lt, n, s0)))
@@ -138,12 +157,15 @@ refilled_is few ys e = all_of few.items ys e
 
 -- lists that are permutations of each other place by place are so together
 together : {P L : Type 0} (given : P → List ℕ) (passes : List P) (hands : List (Hand L)) → length hands ≡ length passes
-    → ((i : ℕ) (p : P) (h : Hand L) → i < length passes → IsPermutation (slice_index_or hands i h).tasks.items (given (slice_index_or passes i p))) → IsPermutation (flat_map given passes) (flat_map (λ (y : Hand L). y.tasks.items) hands)
+    → ((i : ℕ) (p : P) (h : Hand L) → i < length passes
+    → IsPermutation (slice_index_or hands i h).tasks.items (given (slice_index_or passes i p)))
+    → IsPermutation (flat_map given passes) (flat_map (λ (y : Hand L). y.tasks.items) hands)
 together given [] [] len h = IsPermutation-refl []
 together given [] (y ∷ ys) len h = absurd (omega (arith, len))
 together given (p ∷ ps) [] len h = absurd (omega (arith, len))
 together {P} {L} given (p ∷ ps) (y ∷ ys) len h =
-    IsPermutation-append (given p) y.tasks.items (flat_map given ps) (flat_map (λ (z : Hand L). z.tasks.items) ys) (IsPermutation-sym _ _ (h zero p y (omega arith)))
+    IsPermutation-append (given p) y.tasks.items (flat_map given ps) (flat_map (λ (z : Hand L). z.tasks.items) ys)
+    (IsPermutation-sym _ _ (h zero p y (omega arith)))
     (together given ps ys (omega (arith, len)) (λ i q z lt. h (suc i) q z (omega (arith, lt))))
 
 -- an item that stands at a place
@@ -155,12 +177,14 @@ within (y ∷ ys) (suc i) x e = let r = within ys i x e in omega (arith, r)
 there : {X : Type 0} (xs : List X) (i : ℕ) (x : X) → slice_get xs i ≡ Some x → x ≡ slice_index_or xs i x
 there xs i x e = same_Some x (slice_index_or xs i x) (sym e ∙ slice_get-get_or xs i x (within xs i x e))
 
-module _ {P L E : Type 0} (is_of : P → Type 0) (number : P → ℕ) (given : P → List ℕ) (ended : P → Bool) (same_origin : L → L → Type 0) (stands : L → List E → Type 0) (emits : ℕ → List E)
+module _ {P L E : Type 0} (is_of : P → Type 0) (number : P → ℕ) (given : P → List ℕ) (ended : P → Bool) (same_origin : L → L → Type 0)
+    (stands : L → List E → Type 0) (emits : ℕ → List E)
     (count : ℕ) (passes : List P) (locals : List L) (befores afters : List (Work P L)) (again : List P) (hands : List (Hand L))
     (all : AreAll count is_of number passes) (of : AreOf passes locals befores) (len : length afters ≡ length befores)
     (done : AreDone is_of number given ended same_origin stands emits befores afters) (from : AreFrom afters again hands) where
   -- what the i-th hand is
-  hand_is : (i : ℕ) (p : P) (h : Hand L) → i < count → is_of (slice_index_or again i p) × (number (slice_index_or again i p) ≡ i) × (ended (slice_index_or again i p) ≡ true)
+  hand_is : (i : ℕ) (p : P) (h : Hand L) → i < count
+      → is_of (slice_index_or again i p) × (number (slice_index_or again i p) ≡ i) × (ended (slice_index_or again i p) ≡ true)
       × IsPermutation (slice_index_or hands i h).tasks.items (given (slice_index_or again i p))
       × stands (slice_index_or hands i h).local (flat_map emits (slice_index_or hands i h).tasks.items)
   hand_is i p h lt =
@@ -185,14 +209,17 @@ module _ {P L E : Type 0} (is_of : P → Type 0) (number : P → ℕ) (given : P
         g.1,
         g.2,
         subst (λ v. IsPermutation v.items (given (slice_index_or again i p))) (sym ts) g.3,
-        subst (λ v. stands (slice_index_or hands i h).local (flat_map emits v.items)) (sym ts) (subst (λ (l : L). stands l (flat_map emits w.tasks.items)) (sym f.2) good.2),
+        subst (λ v. stands (slice_index_or hands i h).local (flat_map emits v.items)) (sym ts)
+            (subst (λ (l : L). stands l (flat_map emits w.tasks.items)) (sym f.2) good.2),
       )
 
   all_again : AreAll count is_of number again × HaveEnded ended again
   all_again =
       let n0 = all.0 in let n1 = of.0 in let n2 = from.0 in
-      let same : length again ≡ count = omega (arith, n0, n1, n2, len) in
-      ((same, λ i p lt. let r = hand_is i p (hand_for i lt) lt in (r.0, r.1)), λ i p lt. (hand_is i p (hand_for i (omega (arith, lt, same))) (omega (arith, lt, same))).2)
+      let same : length again ≡ count = omega (arith, n0, n1, n2, len) in (
+        (same, λ i p lt. let r = hand_is i p (hand_for i lt) lt in (r.0, r.1)),
+        λ i p lt. (hand_is i p (hand_for i (omega (arith, lt, same))) (omega (arith, lt, same))).2,
+      )
     where
       hand_for : (i : ℕ) → i < count → Hand L
       hand_for i lt = first_of_list hands (let n0 = all.0 in let n1 = of.0 in let n2 = from.1 in omega (arith, n0, n1, n2, len, lt))
@@ -208,7 +235,8 @@ module _ {P L E : Type 0} (is_of : P → Type 0) (number : P → ℕ) (given : P
       let same : length hands ≡ count = omega (arith, n0, n1, n3, len) in
       (same, λ i h lt. (hand_is i (first_of_list again (omega (arith, lt, n2, n3))) h (omega (arith, lt, same))).4)
 
-  origins : length locals ≡ length passes → (i : ℕ) (l : L) (h : Hand L) → i < length hands → same_origin (slice_index_or locals i l) (slice_index_or hands i h).local
+  origins : length locals ≡ length passes → (i : ℕ) (l : L) (h : Hand L) → i < length hands
+      → same_origin (slice_index_or locals i l) (slice_index_or hands i h).local
   origins same i l h lt =
       let n0 = all.0 in let n1 = of.0 in let n2 = from.0 in let n3 = from.1 in
       let p : P = first_of_list again (omega (arith, lt, n2, n3)) in
@@ -222,7 +250,9 @@ module _ {P L E : Type 0} (is_of : P → Type 0) (number : P → ℕ) (given : P
       let r = done j d jl in
       let back : length passes - (j + 1) ≡ i = omega (arith, il, n1, len) in
       let was : b.local ≡ slice_index_or locals i b.local = o.2 ∙ ap (λ k. slice_index_or locals k b.local) back in
-      subst (λ x. same_origin (slice_index_or locals i l) x) (sym f.2) (subst (λ x. same_origin x (slice_index_or afters j d).local) (was ∙ any_default locals i b.local l (omega (arith, il, n0, n1, len, same))) r.2)
+      subst (λ x. same_origin (slice_index_or locals i l) x) (sym f.2)
+      (subst (λ x. same_origin x (slice_index_or afters j d).local)
+      (was ∙ any_default locals i b.local l (omega (arith, il, n0, n1, len, same))) r.2)
 
   -- what a phase ends with
   pub record Ends : Type 0 where
@@ -240,5 +270,6 @@ module _ {P L E : Type 0} (is_of : P → Type 0) (number : P → ℕ) (given : P
     stands_each = stands_all.1;
     origin = λ i l h at at'.
         let lt = within hands i h at' in
-        subst (λ x. same_origin l x.local) (sym (there hands i h at')) (subst (λ x. same_origin x (slice_index_or hands i h).local) (sym (there locals i l at)) (origins same i l h lt));
+        subst (λ x. same_origin l x.local) (sym (there hands i h at'))
+        (subst (λ x. same_origin x (slice_index_or hands i h).local) (sym (there locals i l at)) (origins same i l h lt));
   }

@@ -1,5 +1,7 @@
 -- What all passes at the common array won and were refused tells the rows and the faults of what was emitted.
-use Rattle.std.proofs.Common.{◌≡◌, ℕ, ℤ, zero, suc, ◌+◌, ◌<◌, ◌≤◌, ◌==◌, nat_lt, Bool, true, not, cond, if◌then◌else◌, T, IsTrue, All, Contains, List, [], ◌∷◌, ◌++◌, length, length-append, map, filter, filter_map, flat_map, slice_index_or, Option, Some, None, is_some, option_map, refl, sym, ap, subst, ◌∙◌, arith, IsPermutation}
+use Rattle.std.proofs.Common.{◌≡◌, ℕ, ℤ, zero, suc, ◌+◌, ◌<◌, ◌≤◌, ◌==◌, nat_lt, Bool, true, not, cond, if◌then◌else◌, T, IsTrue, All}
+use Rattle.std.proofs.Common.{Contains, List, [], ◌∷◌, ◌++◌, length, length-append, map, filter, filter_map, flat_map, slice_index_or}
+use Rattle.std.proofs.Common.{Option, Some, None, is_some, option_map, refl, sym, ap, subst, ◌∙◌, arith, IsPermutation}
 use Rattle.std.specs.Prelude.{count_by}
 use Rattle.std.specs.List.{AllByRecursion, cons_option}
 use Rattle.std.specs.List.Sorted.{IsStrictlySortedBy}
@@ -10,7 +12,8 @@ use Rattle.std.specs.FinMap.{IsAntisymmetric, is_sorted, nat_cmp-IsAntisymmetric
 use Rattle.std.proofs.lemmas.Bool.{lt-ltb}
 use Rattle.std.proofs.lemmas.Bool.Decides.{nat_tests}
 use Rattle.std.proofs.lemmas.List.{map-append, length-map, nil_from_length}
-use Rattle.std.proofs.lemmas.List.Elements.{All-nil, All-append, All-map, All-from_recursion, recursion_from_All, Contains-append_left, Contains-append_right, filter_map-append}
+use Rattle.std.proofs.lemmas.List.Elements.{All-nil, All-append, All-map, All-from_recursion, recursion_from_All, Contains-append_left}
+use Rattle.std.proofs.lemmas.List.Elements.{Contains-append_right, filter_map-append}
 use Rattle.std.proofs.lemmas.List.Sorted.{All-permutation, IsPermutation-map, length_permutation}
 use Rattle.std.proofs.lemmas.List.Sums.{sum_by-append}
 use Rattle.std.proofs.lemmas.Simd.{map-map}
@@ -34,7 +37,8 @@ use Rattle.mr_defs.proofs.Ascending.{marked, ascending_sorted}
 use Rattle.mr_defs.proofs.Lesser.{lesser_commutative}
 use Rattle.mr_phase.specs.Spread.{noted_all}
 use Rattle.mr_phase.proofs.Everyone.{each_map, joined_flat, whole_noted}
-use Rattle.mr_phase.proofs.Members.{any_times, at_most_once, contained_each, count_is, count_keys, none_least, same_least, sorted_entries, times-filter}
+use Rattle.mr_phase.proofs.Members.{any_times, at_most_once, contained_each, count_is, count_keys, none_least, same_least, sorted_entries}
+use Rattle.mr_phase.proofs.Members.{times-filter}
 use Rattle.mr_phase.proofs.SameKeys.{keys_inside_sorted, same_keys}
 
 -- what all share is what each does, joined
@@ -48,27 +52,33 @@ module _ {K V X : Type 0} {R : K → K → Ordering} (o : IsTotalOrder R) (one :
   whole_pairs (x ∷ xs) h =
       let rest = flat_map es_of xs in
       All-append (λ w. Contains (es_of x ++ rest) (Pair w.0 w.1)) (won x) (flat_map won xs)
-      (λ i d lt. Contains-append_left (es_of x) rest (Pair (slice_index_or (won x) i d).0 (slice_index_or (won x) i d).1) (h.0.pairs i d lt))
-      (λ i d lt. Contains-append_right (es_of x) rest (Pair (slice_index_or (flat_map won xs) i d).0 (slice_index_or (flat_map won xs) i d).1) (whole_pairs xs h.1 i d lt))
+      (λ i d lt. Contains-append_left (es_of x) rest (Pair (slice_index_or (won x) i d).0 (slice_index_or (won x) i d).1)
+      (h.0.pairs i d lt))
+      (λ i d lt. Contains-append_right (es_of x) rest
+      (Pair (slice_index_or (flat_map won xs) i d).0 (slice_index_or (flat_map won xs) i d).1) (whole_pairs xs h.1 i d lt))
 
   whole_counts : (xs : List X) → AllByRecursion Shares xs → (k : K) → IsTrue (inside k)
-      → length (at R (flat_map es_of xs) k) ≡ count_by (λ w. eq_by_cmp R k w.0) (flat_map won xs) + count_by (eq_by_cmp R k) (flat_map refused xs)
+      → length (at R (flat_map es_of xs) k)
+      ≡ count_by (λ w. eq_by_cmp R k w.0) (flat_map won xs) + count_by (eq_by_cmp R k) (flat_map refused xs)
   whole_counts [] h k i = refl
   whole_counts (x ∷ xs) h k i =
-      let a = ap length (filter_map-append (value_at R k) (es_of x) (flat_map es_of xs)) ∙ length-append (at R (es_of x) k) (at R (flat_map es_of xs) k) in
+      let a = ap length (filter_map-append (value_at R k) (es_of x) (flat_map es_of xs))
+      ∙ length-append (at R (es_of x) k) (at R (flat_map es_of xs) k) in
       let b = h.0.counts k i in
       let c = whole_counts xs h.1 k i in
       let d = sum_by-append (λ (w : K × V). cond (eq_by_cmp R k w.0) 1 0) (won x) (flat_map won xs) in
       let e = sum_by-append (λ (w : K). cond (eq_by_cmp R k w) 1 0) (refused x) (flat_map refused xs) in
       omega (arith, a, b, c, d, e)
 
-  pub whole_shares : (xs : List X) → AllByRecursion Shares xs → SharesFor R inside (flat_map won xs) (flat_map refused xs) (length (flat_map won xs)) (noted_all R noted xs) (flat_map es_of xs)
+  pub whole_shares : (xs : List X) → AllByRecursion Shares xs
+      → SharesFor R inside (flat_map won xs) (flat_map refused xs) (length (flat_map won xs)) (noted_all R noted xs) (flat_map es_of xs)
   whole_shares xs h = record {
     pairs = whole_pairs xs h;
     counts = whole_counts xs h;
     count = refl;
     faults = whole_noted o one inside noted es_of xs (each_map Shares (λ x. IsNotedOf R inside (noted x) (es_of x)) (λ x s. s.faults) xs h);
-    twice = joined_flat (lesser_commutative o one) (λ k. Some k) (λ x. (noted x).twice) refused xs (each_map Shares (λ x. (noted x).twice ≡ least R (refused x)) (λ x s. s.twice) xs h);
+    twice = joined_flat (lesser_commutative o one) (λ k. Some k) (λ x. (noted x).twice) refused xs
+        (each_map Shares (λ x. (noted x).twice ≡ least R (refused x)) (λ x s. s.twice) xs h);
   }
 
 -- how often a key stands among the keys inside
@@ -89,7 +99,8 @@ module _ (inside : ℕ → Bool) (es : List (Emission ℕ ℤ)) where
       let all = filter_map pair_key es in
       let ks = ascending nat_cmp all in
       let sorted = at_most_once k ks (ascending_sorted nat_cmp nat_cmp_total all) in
-      let any = sym (any_times k ks) ∙ any-ascending nat_cmp nat_cmp-IsAntisymmetric k all ∙ sym (is_some-cell_of nat_cmp (λ v. tt {0}) (λ a b. tt) es k) ∙ is_some_cell (at nat_cmp es k) in
+      let any = sym (any_times k ks) ∙ any-ascending nat_cmp nat_cmp-IsAntisymmetric k all
+      ∙ sym (is_some-cell_of nat_cmp (λ v. tt {0}) (λ a b. tt) es k) ∙ is_some_cell (at nat_cmp es k) in
       let f = times-filter inside k ks in
       grind (arith, nat_tests, sorted, any, f)
 
@@ -99,7 +110,9 @@ module _ (k : ℕ) (v : ℤ) where
   found = ap (λ r. if is_eq r then Some v else None) (tied_itself nat_cmp_total k)
 
   first_value : (w : Option ℤ) (vs : List ℤ) → w ≡ Some v → length (cons_option w vs) ≤ 1 → cons_option w vs ≡ v ∷ []
-  first_value w vs e few = ap (λ o. cons_option o vs) e ∙ ap (λ l. v ∷ l) (nil_from_length vs (let f : length (cons_option (Some v) vs) ≤ 1 = subst (λ o. length (cons_option o vs) ≤ 1) e few in omega (arith, f)))
+  first_value w vs e few = ap (λ o. cons_option o vs) e
+      ∙ ap (λ l. v ∷ l) (nil_from_length vs
+      (let f : length (cons_option (Some v) vs) ≤ 1 = subst (λ o. length (cons_option o vs) ≤ 1) e few in omega (arith, f)))
 
   later_value : (w : Option ℤ) (vs : List ℤ) → (length vs ≤ 1 → vs ≡ v ∷ []) → length (cons_option w vs) ≤ 1 → cons_option w vs ≡ v ∷ []
   later_value None vs rest few = rest few
@@ -108,7 +121,8 @@ module _ (k : ℕ) (v : ℤ) where
       let one = ap length is in
       absurd (omega (arith, few, one))
 
-  only_value : (es : List (Emission ℕ ℤ)) (i : ℕ) → i < length es → slice_index_or es i (Pair k v) ≡ Pair k v → length (at nat_cmp es k) ≤ 1 → at nat_cmp es k ≡ v ∷ []
+  only_value : (es : List (Emission ℕ ℤ)) (i : ℕ) → i < length es → slice_index_or es i (Pair k v) ≡ Pair k v
+      → length (at nat_cmp es k) ≤ 1 → at nat_cmp es k ≡ v ∷ []
   only_value [] i lt is few = absurd (omega (arith, lt))
   only_value (e ∷ es) zero lt is few = first_value (value_at nat_cmp k e) (at nat_cmp es k) (ap (value_at nat_cmp k) is ∙ found) few
   only_value (e ∷ es) (suc i) lt is few = later_value (value_at nat_cmp k e) (at nat_cmp es k) (only_value es i (omega (arith, lt)) is) few
@@ -119,19 +133,22 @@ rows_by_keys : (es : List (Emission ℕ ℤ)) (rows : List (Row ℕ)) → AllByR
 rows_by_keys es [] h = refl
 rows_by_keys es (row ∷ rows) h = λ i. (row.0, sym h.0 i) ∷ rows_by_keys es rows h.1 i
 
-module _ {X : Type 0} (n : ℕ) (won : X → List (ℕ × ℤ)) (refused : X → List ℕ) (cells : X → ℕ) (noted : X → Noted ℕ) (es_of : X → List (Emission ℕ ℤ)) (xs : List X)
+module _ {X : Type 0} (n : ℕ) (won : X → List (ℕ × ℤ)) (refused : X → List ℕ) (cells : X → ℕ) (noted : X → Noted ℕ)
+    (es_of : X → List (Emission ℕ ℤ)) (xs : List X)
     (shares : AllByRecursion (λ x. SharesFor nat_cmp (λ k. nat_lt k n) (won x) (refused x) (cells x) (noted x) (es_of x)) xs)
     (below : AllByRecursion (λ x. IsApartBelow n (keys (won x))) xs) where
   keys_below : (k : ℕ) (ys : List X) → AllByRecursion (λ x. IsApartBelow n (keys (won x))) ys → n ≤ k → times k (keys (flat_map won ys)) ≡ 0
   keys_below k [] h past = refl
   keys_below k (y ∷ ys) h past =
-      let a = ap (times k) (map-append (λ (p : ℕ × ℤ). p.0) (won y) (flat_map won ys)) ∙ times-append k (keys (won y)) (keys (flat_map won ys)) in
+      let a = ap (times k) (map-append (λ (p : ℕ × ℤ). p.0) (won y) (flat_map won ys))
+      ∙ times-append k (keys (won y)) (keys (flat_map won ys)) in
       let b = h.0 k in
       let c = keys_below k ys h.1 past in
       grind (arith, nat_tests, a, b, c, past)
 
   -- where none was refused a key, each worker won a pair of every key that it emitted
-  each_cells : (ys : List X) → AllByRecursion (λ x. SharesFor nat_cmp (λ k. nat_lt k n) (won x) (refused x) (cells x) (noted x) (es_of x)) ys
+  each_cells : (ys : List X)
+      → AllByRecursion (λ x. SharesFor nat_cmp (λ k. nat_lt k n) (won x) (refused x) (cells x) (noted x) (es_of x)) ys
       → AllByRecursion (λ x. IsApartBelow n (keys (won x))) ys → ((k : ℕ) → times k (flat_map refused ys) ≡ 0)
       → AllByRecursion (λ x. cells x ≡ cells_of nat_cmp (λ k. nat_lt k n) (es_of x)) ys
   each_cells [] h low none = tt
@@ -146,7 +163,8 @@ module _ {X : Type 0} (n : ℕ) (won : X → List (ℕ × ℤ)) (refused : X →
         dite (dec_lt k n)
         (λ lt. let c = h.0.counts k (lt-ltb k n lt) in grind (arith, nat_tests, t, a, z, p, w, r, c, lt))
         (λ no. grind (arith, nat_tests, t, a, no))) in
-        h.0.count ∙ sym (length-map (won y) (λ p. p.0)) ∙ sym (length_permutation (keys (won y)) (keys_inside nat_cmp (λ k. nat_lt k n) (es_of y)) same)),
+        h.0.count ∙ sym (length-map (won y) (λ p. p.0))
+        ∙ sym (length_permutation (keys (won y)) (keys_inside nat_cmp (λ k. nat_lt k n) (es_of y)) same)),
     each_cells ys h.1 low.1 (λ k. let z = none k in let p = times-append k (refused y) (flat_map refused ys) in omega (arith, z, p)),
   )
 
@@ -157,9 +175,12 @@ module _ {X : Type 0} (n : ℕ) (won : X → List (ℕ × ℤ)) (refused : X →
     pairs_below ps (λ k past. let z = h k past in omega (arith, z)),
   )
 
-  module _ (rows : List (Row ℕ)) (ascends : IsStrictlySortedBy nat_cmp (map (λ row. row.0) rows)) (are : IsPermutation (map row_of (flat_map won xs)) rows)
-      (taken : All (Contains (keys (flat_map won xs))) (flat_map refused xs)) (es : List (Emission ℕ ℤ)) (same : IsPermutation (flat_map es_of xs) es) where
-    whole : SharesFor nat_cmp (λ k. nat_lt k n) (flat_map won xs) (flat_map refused xs) (length (flat_map won xs)) (noted_all nat_cmp noted xs) es
+  module _ (rows : List (Row ℕ)) (ascends : IsStrictlySortedBy nat_cmp (map (λ row. row.0) rows))
+      (are : IsPermutation (map row_of (flat_map won xs)) rows)
+      (taken : All (Contains (keys (flat_map won xs))) (flat_map refused xs)) (es : List (Emission ℕ ℤ))
+      (same : IsPermutation (flat_map es_of xs) es) where
+    whole : SharesFor nat_cmp (λ k. nat_lt k n) (flat_map won xs) (flat_map refused xs) (length (flat_map won xs))
+        (noted_all nat_cmp noted xs) es
     whole = shares_in_any_order nat_cmp_total nat_cmp-IsAntisymmetric (λ k. nat_lt k n) _ _ _ _ (flat_map es_of xs) es same
         (whole_shares nat_cmp_total nat_cmp-IsAntisymmetric (λ k. nat_lt k n) won refused cells noted es_of xs shares)
 
@@ -173,7 +194,8 @@ module _ {X : Type 0} (n : ℕ) (won : X → List (ℕ × ℤ)) (refused : X →
     times_rows : (k : ℕ) → times k row_keys ≡ times k (keys (flat_map won xs))
     unfolding row_keys
     times_rows k = times-permuted k (keys (flat_map won xs)) (map (λ row. row.0) rows)
-        (subst (λ l. IsPermutation l (map (λ (row : Row ℕ). row.0) rows)) (map-map (λ (row : Row ℕ). row.0) row_of (flat_map won xs)) (IsPermutation-map (λ (row : Row ℕ). row.0) (map row_of (flat_map won xs)) rows are))
+        (subst (λ l. IsPermutation l (map (λ (row : Row ℕ). row.0) rows)) (map-map (λ (row : Row ℕ). row.0) row_of (flat_map won xs))
+        (IsPermutation-map (λ (row : Row ℕ). row.0) (map row_of (flat_map won xs)) rows are))
 
     counts : (k : ℕ) → k < n → length (at nat_cmp es k) ≡ times k row_keys + times k (flat_map refused xs)
     counts k lt =
@@ -192,21 +214,25 @@ module _ {X : Type 0} (n : ℕ) (won : X → List (ℕ × ℤ)) (refused : X →
         dite (dec_lt k n)
         (λ lt. let c = counts k lt in
         dite (dec_lt 0 (times k (flat_map refused xs)))
-        (λ some. let w = contained_each k (keys (flat_map won xs)) (flat_map refused xs) taken some in grind (arith, nat_tests, i, t, m, c, w, lt))
+        (λ some. let w = contained_each k (keys (flat_map won xs)) (flat_map refused xs) taken some in
+        grind (arith, nat_tests, i, t, m, c, w, lt))
         (λ none. grind (arith, nat_tests, i, t, m, c, none, lt)))
         (λ no. let z = keys_below k xs below (omega (arith, no)) in grind (arith, nat_tests, i, t, z, no))
 
     pub keys_are : map (λ row. row.0) rows ≡ keys_inside nat_cmp (λ k. nat_lt k n) es
     unfolding row_keys
-    keys_are = same_keys nat_cmp nat_cmp_total nat_cmp-IsAntisymmetric (map (λ row. row.0) rows) (keys_inside nat_cmp (λ k. nat_lt k n) es) sorted (keys_inside_sorted nat_cmp_total (λ k. nat_lt k n) es)
-        (λ k. any_times k (map (λ row. row.0) rows) ∙ ap (λ t. not (t == 0)) (same_times k) ∙ sym (any_times k (keys_inside nat_cmp (λ k. nat_lt k n) es)))
+    keys_are = same_keys nat_cmp nat_cmp_total nat_cmp-IsAntisymmetric (map (λ row. row.0) rows)
+        (keys_inside nat_cmp (λ k. nat_lt k n) es) sorted (keys_inside_sorted nat_cmp_total (λ k. nat_lt k n) es)
+        (λ k. any_times k (map (λ row. row.0) rows) ∙ ap (λ t. not (t == 0)) (same_times k)
+        ∙ sym (any_times k (keys_inside nat_cmp (λ k. nat_lt k n) es)))
 
     -- the keys that were refused are those that stand in more than one pair
     abbrev twice_keys : List ℕ
     twice_keys = filter (λ k. nat_lt 1 (length (at nat_cmp es k))) (keys_inside nat_cmp (λ k. nat_lt k n) es)
 
     times_twice : (k : ℕ) → times k twice_keys ≡ cond (nat_lt 1 (length (at nat_cmp es k))) (times k row_keys) 0
-    times_twice k = times-filter (λ k. nat_lt 1 (length (at nat_cmp es k))) k (keys_inside nat_cmp (λ k. nat_lt k n) es) ∙ ap (λ t. cond (nat_lt 1 (length (at nat_cmp es k))) t 0) (sym (same_times k))
+    times_twice k = times-filter (λ k. nat_lt 1 (length (at nat_cmp es k))) k (keys_inside nat_cmp (λ k. nat_lt k n) es)
+        ∙ ap (λ t. cond (nat_lt 1 (length (at nat_cmp es k))) t 0) (sym (same_times k))
 
     refused_twice : (k : ℕ) → 1 ≤ times k (flat_map refused xs) → 1 ≤ times k twice_keys
     refused_twice k some =
@@ -230,7 +256,12 @@ module _ {X : Type 0} (n : ℕ) (won : X → List (ℕ × ℤ)) (refused : X →
     twice_is = whole.twice ∙ same_least (flat_map refused xs) twice_keys refused_twice twice_refused
 
     pub faults_are : noted_all nat_cmp noted xs ≡ common_faults_of nat_cmp (λ k. nat_lt k n) es
-    faults_are = λ i. record { malformed = whole.faults.malformed i; outside = whole.faults.outside i; twice = twice_is i; over = whole.faults.over i }
+    faults_are = λ i. record {
+      malformed = whole.faults.malformed i;
+      outside = whole.faults.outside i;
+      twice = twice_is i;
+      over = whole.faults.over i;
+    }
 
     -- where no key stands in two pairs
     module _ (once : twice_of nat_cmp (λ k. nat_lt k n) es ≡ None) where
@@ -241,7 +272,8 @@ module _ {X : Type 0} (n : ℕ) (won : X → List (ℕ × ℤ)) (refused : X →
       values_are i d lt =
           let p = slice_index_or (flat_map won xs) i d in
           let there = whole.pairs i d lt in
-          let low = All-from_recursion (λ q. q.0 < n) (flat_map won xs) (pairs_below (flat_map won xs) (λ k past. keys_below k xs below past)) i d lt in
+          let low = All-from_recursion (λ q. q.0 < n) (flat_map won xs)
+          (pairs_below (flat_map won xs) (λ k past. keys_below k xs below past)) i d lt in
           let c = counts p.0 low in
           let m = at_most_once p.0 row_keys sorted in
           let z = none_refused p.0 in
@@ -249,7 +281,8 @@ module _ {X : Type 0} (n : ℕ) (won : X → List (ℕ × ℤ)) (refused : X →
 
       pub rows_are : rows ≡ rows_of nat_cmp (λ k. nat_lt k n) once_folded es
       rows_are = rows_by_keys es rows (recursion_from_All (λ row. at nat_cmp es row.0 ≡ row.1) rows
-          (All-permutation (λ row. at nat_cmp es row.0 ≡ row.1) (map row_of (flat_map won xs)) rows are (All-map (λ row. at nat_cmp es row.0 ≡ row.1) row_of (flat_map won xs) values_are)))
+          (All-permutation (λ row. at nat_cmp es row.0 ≡ row.1) (map row_of (flat_map won xs)) rows are
+          (All-map (λ row. at nat_cmp es row.0 ≡ row.1) row_of (flat_map won xs) values_are)))
           ∙ ap (filter_map (λ k. option_map (λ a. (k, a)) (once_folded (at nat_cmp es k)))) keys_are
 
       pub cells_are : AllByRecursion (λ x. cells x ≡ cells_of nat_cmp (λ k. nat_lt k n) (es_of x)) xs

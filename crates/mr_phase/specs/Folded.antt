@@ -1,5 +1,5 @@
 -- Entries, each a key with a cell, whose neighbours of one key are merged into one.
-use Rattle.std.specs.Prelude.{ℕ, if◌then◌else◌, List, [], ◌∷◌, map, Option, Some, None}
+use Rattle.std.specs.Prelude.{if◌then◌else◌, List, [], ◌∷◌, map, Option, Some, None}
 use Rattle.std.specs.Borrow.{Bor}
 use Rattle.std.specs.declared.cmp.Ordering.{Ordering}
 use Rattle.std.specs.Ordering.{eq_by_cmp}
@@ -7,10 +7,6 @@ use Rattle.std.specs.Ordering.{eq_by_cmp}
 -- the entries that are referred to
 abbrev pub seen_of : {K C : Type 0} → List (Bor K × Bor C) → List (K × C)
 seen_of es = map (λ e. (e.0.now, e.1.now)) es
-
--- the same, of entries with the leads of their keys
-abbrev pub near_of : {K C : Type 0} → List (ℕ × Bor K × Bor C) → List (K × C)
-near_of es = map (λ e. (e.1.now, e.2.now)) es
 
 -- the cell of an entry of this key
 abbrev pub cell_in : {K C : Type 0} → (K → K → Ordering) → K → K × C → Option C

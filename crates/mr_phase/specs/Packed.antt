@@ -1,6 +1,6 @@
 -- One number for an entry: the front of its lead, and its place below it.
-use Rattle.std.specs.Prelude.{◌≡◌, ◌<◌, ◌-◌, ◌+◌, ◌*◌, ◌/◌, ◌%◌, ℕ, nat_lt, if◌then◌else◌, Bool, false, All, List, [], ◌∷◌, ◌++◌, length, take, drop, filter_map, slice_get, slice_index_or}
-use Rattle.std.specs.List.Sorted.{IsPermutation, IsSortedBy}
+use Rattle.std.specs.Prelude.{◌≡◌, ◌<◌, ◌-◌, ◌+◌, ◌*◌, ◌/◌, ◌%◌, ℕ, nat_lt, if◌then◌else◌, Bool, false, All, List, [], ◌∷◌, length}
+use Rattle.std.specs.Prelude.{filter_map, slice_get, slice_index_or}
 
 -- the greatest front that is told apart among so many places
 abbrev pub most_of : ℕ → ℕ
@@ -33,10 +33,3 @@ module _ {X : Type 0} where
     pub front : X → ℕ
     pub orders : (a b : X) → front a < front b → lt b a ≡ false
     pub tells : All (Tells front entries) words
-
-  -- from a place on, the items are in order
-  pub record IsSettled (lt : X → X → Bool) (start : ℕ) (old new : List X) : Type 0 where
-    pub run : List X
-    pub is : new ≡ take start old ++ run
-    pub all : IsPermutation (drop start old) run
-    pub rises : IsSortedBy lt run

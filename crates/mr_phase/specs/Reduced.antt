@@ -7,7 +7,8 @@ use Rattle.mr_defs.specs.Rows.{rows_of}
 use Rattle.mr_combine.specs.Fold.{outcome}
 
 -- the rows are those of the emissions, and each fault that is noted is the least of its kind
-pub record IsReduced {K V : Type 0} (R : K → K → Ordering) (inside : K → Bool) (folded : List V → Option Answer) (rows : List (Row K)) (noted : Noted K) (es : List (Emission K V)) : Type 0 where
+pub record IsReduced {K V : Type 0} (R : K → K → Ordering) (inside : K → Bool) (folded : List V → Option Answer) (rows : List (Row K))
+    (noted : Noted K) (es : List (Emission K V)) : Type 0 where
   pub all_rows : rows ≡ rows_of R inside folded es
   pub malformed : noted.malformed ≡ malformed_of es
   pub outside : noted.outside ≡ outside_of R inside es

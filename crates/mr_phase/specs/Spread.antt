@@ -20,6 +20,7 @@ noted_all R noted xs = record {
 }
 
 -- the lists together have the rows of the emissions and each ascends, and the faults are those of the emissions
-pub record IsSpreadOf {K V : Type 0} (R : K → K → Ordering) (inside : K → Bool) (folded : List V → Option Answer) (lists : List (List (Row K))) (noted : Noted K) (es : List (Emission K V)) : Type 0 where
+pub record IsSpreadOf {K V : Type 0} (R : K → K → Ordering) (inside : K → Bool) (folded : List V → Option Answer)
+    (lists : List (List (Row K))) (noted : Noted K) (es : List (Emission K V)) : Type 0 where
   pub rows : IsSpread R (rows_of R inside folded es) lists
   pub faults : IsReduced R inside folded (rows_of R inside folded es) noted es

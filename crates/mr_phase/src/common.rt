@@ -5,6 +5,7 @@ ghost use Rattle.std.specs.Ordering.{nat_cmp};
 ghost use Rattle.mr_defs.specs.Faulty.{common_faults_of};
 ghost use Rattle.mr_defs.specs.Folded.{once_folded};
 ghost use Rattle.mr_defs.specs.Keyed.{keys_inside};
+ghost use Rattle.mr_defs.specs.Limits.{greatest_capacity};
 ghost use Rattle.mr_defs.specs.Rows.{cells_of, rows_of};
 ghost use Rattle.mr_base.specs.Noting.{noted_of};
 ghost use Rattle.mr_base.specs.Tasks.{AreAll, AreUnused};
@@ -28,8 +29,8 @@ pub struct CommonHand {
     pub cells: u64,
 }
 
-/// What a phase over the common array gives: the pairs that were won, as rows that ascend by key, the faults, each the least of its kind, and what each
-/// worker has.
+/// What a phase over the common array gives: the pairs that were won, as rows that ascend by key, the faults, each the least of its kind,
+/// and what each worker has.
 #[derive(Drop)]
 pub struct CommonDone {
     pub rows: Rows<NumKey>,
@@ -123,7 +124,8 @@ fn map_into<
 ) -> Result<Left, Memory>
     requires passes { AreAll (Q.count queues) (Q.is_of queues) Q.number passes.items × AreUnused Q.given Q.ended passes.items }
     requires few { (0 < Q.count queues) × (Q.count queues ≤ 32) }
-    requires own { ArePassesOf array.now.table.shared.table_id array.now.size own.items × All IsUnused own.items × (length own.items ≡ length passes.items) }
+    requires own { ArePassesOf array.now.table.shared.table_id array.now.size own.items × All IsUnused own.items
+        × (length own.items ≡ length passes.items) }
     requires total { Q.total queues ≡ M.task_count mapper.now }
     ensures { IfOk result (IsLeft array.now (Q.count queues) (M.task_count mapper.now) (M.task_emissions mapper.now)) }
 {
@@ -132,10 +134,11 @@ fn map_into<
     leave_all(alloc, mapped)
 }
 
-/// Maps each task once, into one array of this size, from 1 to 65536, which all workers share: the first pair of a key is won, and every later one refused.
-/// Workers and gate are as in `map_phase`.
+/// Maps each task once, into one array of this size, from 1 to 65536, which all workers share: the first pair of a key is won, and every
+/// later one refused. Workers and gate are as in `map_phase`.
 ///
-/// The rows are the pairs that were won, one for each key below the size that was emitted, and a key that was emitted more than once is a fault.
+/// The rows are the pairs that were won, one for each key below the size that was emitted, and a key that was emitted more than once is a
+/// fault.
 pub fn common_phase<
     R: Threads + Sync,
     Q: TaskQueues + Sync + Drop,
@@ -153,9 +156,10 @@ pub fn common_phase<
     requires passes { AreAll (Q.count queues) (Q.is_of queues) Q.number passes.items × AreUnused Q.given Q.ended passes.items }
     requires few { (0 < Q.count queues) × (Q.count queues ≤ 32) }
     requires total { Q.total queues ≡ M.task_count mapper.now }
-    requires size { (1 ≤ size) × (size ≤ 65536) }
+    requires size { (1 ≤ size) × (size ≤ greatest_capacity) }
     ensures count { IfOk result (λ done. length done.hands.items ≡ Q.count queues) }
-    ensures once { IfOk result (λ done. IsPermutation (range_with_len 0 (M.task_count mapper.now)) (flat_map (λ h. h.tasks.items) done.hands.items)) }
+    ensures once { IfOk result
+        (λ done. IsPermutation (range_with_len 0 (M.task_count mapper.now)) (flat_map (λ h. h.tasks.items) done.hands.items)) }
     ensures faults { IfOk result (λ done. noted_of done.faults ≡ common_faults_of nat_cmp (λ k. nat_lt k size)
         (flat_map (M.task_emissions mapper.now) (range_with_len 0 (M.task_count mapper.now)))) }
     ensures won { IfOk result (λ done. AreWon (M.task_emissions mapper.now) done.rows done.hands.items) }
@@ -164,7 +168,8 @@ pub fn common_phase<
     ensures rows { IfOk result (λ done. done.faults.twice ≡ None → done.rows ≡ rows_of nat_cmp (λ k. nat_lt k size) once_folded
         (flat_map (M.task_emissions mapper.now) (range_with_len 0 (M.task_count mapper.now)))) }
     ensures cells { IfOk result (λ done. done.faults.twice ≡ None
-        → All (λ h. h.cells ≡ cells_of nat_cmp (λ k. nat_lt k size) (flat_map (M.task_emissions mapper.now) h.tasks.items)) done.hands.items) }
+        → All (λ h. h.cells ≡ cells_of nat_cmp (λ k. nat_lt k size) (flat_map (M.task_emissions mapper.now) h.tasks.items))
+        done.hands.items) }
 {
     let (array, own) = CommonArray::new(alloc, size, passes.len() as u32)?;
     let left = map_into(rt, alloc, queues, passes, &array, own, mapper, gate)?;

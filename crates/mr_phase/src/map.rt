@@ -71,12 +71,14 @@ where
     requires total { Q.total queues.now ≡ M.task_count mapper.now }
     requires fresh { AreFresh (Q.is_of queues.now) Q.number Q.given L.stands works.old.items }
     ensures len { length works.new.items ≡ length works.old.items }
-    ensures done { AreDone (Q.is_of queues.now) Q.number Q.given Q.ended L.same_origin L.stands (M.task_emissions mapper.now) works.old.items works.new.items }
+    ensures done { AreDone (Q.is_of queues.now) Q.number Q.given Q.ended L.same_origin L.stands
+        (M.task_emissions mapper.now) works.old.items works.new.items }
 {
     let count = works.len();
     let work_one = |_: usize, work: &mut Work<Q::Pass, L>|
         requires { (Q.total queues.now ≡ M.task_count mapper.now) × IsFresh (Q.is_of queues.now) Q.number Q.given L.stands work.old }
-        ensures { IsDone (Q.is_of queues.entry.now) Q.number Q.given Q.ended L.same_origin L.stands (M.task_emissions mapper.entry.now) work.old work.new }
+        ensures { IsDone (Q.is_of queues.entry.now) Q.number Q.given Q.ended L.same_origin L.stands
+            (M.task_emissions mapper.entry.now) work.old work.new }
     { work_through(alloc, queues, mapper, gate, work) };
     thread::for_each_mut(rt, works.as_mut_slice(), count, &work_one);
 }
@@ -108,7 +110,8 @@ pub(crate) fn equip<P: Drop, L: Drop>(
     Ok(works)
 }
 
-// Puts the passes and the hands of the workers, the last of which has the first, into lists with room for them. Memory where a worker was starved.
+// Puts the passes and the hands of the workers, the last of which has the first, into lists with room for them. Memory where a worker was
+// starved.
 pub(crate) fn dismiss<P: Drop, L: Drop>(
     mut works: Few<Work<P, L>>,
     mut passes: Few<P>,
@@ -131,11 +134,11 @@ pub(crate) fn dismiss<P: Drop, L: Drop>(
     Ok((passes, hands))
 }
 
-/// Maps each task once, into the local of the worker that took it. Worker `w` has pass `w`, and enters the gate as `w` before each of its tasks; it
-/// runs in a thread of its own where one can be made.
+/// Maps each task once, into the local of the worker that took it. Worker `w` has pass `w`, and enters the gate as `w` before each of its
+/// tasks; it runs in a thread of its own where one can be made.
 ///
-/// The hands stand in the order of the passes, each with the local that was given at its place. A worker that finds no memory stops; the others
-/// end, and the answer is `Memory`.
+/// The hands stand in the order of the passes, each with the local that was given at its place. A worker that finds no memory stops; the
+/// others end, and the answer is `Memory`.
 pub fn map_phase<
     R: Threads + Sync,
     Q: TaskQueues + Sync + Drop,
@@ -161,7 +164,8 @@ where
     ensures count { IfOk result (λ hands. length hands ≡ Q.count queues) }
     ensures once { IfOk result (λ hands. IsPermutation (range_with_len 0 (M.task_count mapper.now)) (flat_map (λ h. h.tasks.items) hands)) }
     ensures stands { IfOk result (λ hands. All (λ h. L.stands h.local (flat_map (M.task_emissions mapper.now) h.tasks.items)) hands) }
-    ensures origin { IfOk result (λ hands. (i : ℕ) (l : L) (h : Hand L) → slice_get locals.items i ≡ Some l → slice_get hands i ≡ Some h → L.same_origin l h.local) }
+    ensures origin { IfOk result
+        (λ hands. (i : ℕ) (l : L) (h : Hand L) → slice_get locals.items i ≡ Some l → slice_get hands i ≡ Some h → L.same_origin l h.local) }
 {
     let hands = Few::with_room(alloc, passes.len() as u32)?;
     let mut works = equip(alloc, &mut passes, locals)?;

@@ -57,7 +57,8 @@ where
     <L::Fold as Combiner>::Cell: Send,
     requires { (1 ≤ partitions) × (partitions ≤ 64) }
     ensures len { length hands.new.items ≡ length hands.old.items }
-    ensures each { (i : ℕ) (d : Hand L) → i < length hands.old.items → IsSameHand L.same (slice_index_or hands.old.items i d) (slice_index_or hands.new.items i d) }
+    ensures each { (i : ℕ) (d : Hand L) → i < length hands.old.items
+        → IsSameHand L.same (slice_index_or hands.old.items i d) (slice_index_or hands.new.items i d) }
 {
     let count = hands.len().max(1);
     let arrange_one = |_: usize, hand: &mut Hand<L>|
@@ -72,12 +73,13 @@ where
 // What hands stand for stays where nothing changes that contracts see.
 fn stands_stay<L: Parted>()
     ensures { (pairs : ℕ → List (Emission L.Key L.Value)) (olds news : List (Hand L)) → AreSameHands L.same olds news
-        → All (λ h. L.stands h.local (flat_map pairs h.tasks.items)) olds → All (λ h. L.stands h.local (flat_map pairs h.tasks.items)) news }
+        → All (λ h. L.stands h.local (flat_map pairs h.tasks.items)) olds
+        → All (λ h. L.stands h.local (flat_map pairs h.tasks.items)) news }
 {}
 
 impl<L: Parted + Send> Mapped<L> {
-    /// Arranges the keys of each hand by partition, for the number of partitions by which they will be reduced, so that no partition is read past
-    /// the keys of others. Each hand has a thread of its own where one can be made.
+    /// Arranges the keys of each hand by partition, for the number of partitions by which they will be reduced, so that no partition is
+    /// read past the keys of others. Each hand has a thread of its own where one can be made.
     ///
     /// Nothing that contracts see changes. A hand that finds no memory stays as it was, and is read as well, only slower.
     pub fn arrange<R: Threads + Sync>(&mut self, rt: &R, alloc: Global, partitions: u32)

@@ -2,19 +2,17 @@ ghost use Rattle.std.specs.Prelude.{◌≡◌, ◌==◌, ◌<◌, ◌≤◌, ◌
 ghost use Rattle.std.specs.List.{cons_option};
 ghost use Rattle.mr_defs.specs.Commutative.{joined, joined_by};
 ghost use Rattle.mr_defs.specs.Keyed.{lesser};
-ghost use Rattle.mr_phase.specs.Folded.{cell_in, fold_equal, seen_of};
-ghost use Rattle.mr_phase.specs.Partition.{IsReducedAt};
+ghost use Rattle.mr_phase.specs.Folded.{cell_in, seen_of};
+ghost use Rattle.mr_phase.specs.Partition.{AreFolded, IsReducedAt};
 ghost use Rattle.mr_phase.specs.Reduced.{entry_row, over_key};
 
-use crate::ahead::{SIDE_BY_SIDE, are_equal, next_entry};
+use crate::ahead::{Ahead, are_equal};
 use crate::entries::add_part;
 use crate::mapped::Mapped;
-use crate::order::order;
 use mr_base::{Key, Memory, Rows, keep_lesser};
 use mr_combine::{Combiner, Reducer};
 use mr_container::Parted;
 use std::alloc::Global;
-use std::collections::VecDeque;
 
 /// The rows of a partition, ascending by key, and its least key that is over.
 #[derive(Drop)]
@@ -67,32 +65,27 @@ fn read_hands<L: Parted>(
     Ok(entries)
 }
 
-// Merges neighbours of one key, the cell of the first copied and the others merged into it, and reduces what they come to.
+// Merges the entries of one key, the cell of the first copied and the others merged into it, and reduces what they come to.
 fn reduce_entries<'a, K: Key, C: Combiner, R: Reducer<C>>(
     alloc: Global,
     part: u32,
     entries: Vec<(&'a K, &'a C::Cell)>,
 ) -> Result<Partition<K>, Memory>
     ensures part { IfOk result (λ p. p.part ≡ part) }
-    ensures rows { IfOk result (λ p. p.rows ≡ filter_map (entry_row C.over R.answer) (fold_equal K.cmp C.merged (seen_of entries.entry.items))) }
-    ensures over { IfOk result (λ p. p.over ≡ joined_by (lesser K.cmp) (over_key C.over) (fold_equal K.cmp C.merged (seen_of entries.entry.items))) }
+    ensures folds { IfOk result (λ p. AreFolded K.cmp C.merged C.over R.answer entries.entry.items p) }
 {
     let mut made = Partition {
         part,
         rows: Rows::new(alloc),
         over: None,
     };
-    let mut far = VecDeque::from_vec(entries);
-    let mut near: VecDeque<(u64, &'a K, &'a C::Cell)> = VecDeque::with_capacity(
-        alloc,
-        SIDE_BY_SIDE,
-    )?;
-    let Some((_, first, one)) = next_entry(&mut near, &mut far)? else {
+    let mut ahead = Ahead::of(alloc, entries)?;
+    let Some((_, first, one)) = ahead.take(alloc)? else {
         return Ok(made);
     };
     let mut key = first;
     let mut cell = C::copy(alloc, one)?;
-    while let Some((lead, next, other)) = next_entry(&mut near, &mut far)? {
+    while let Some((lead, next, other)) = ahead.take(alloc)? {
         if are_equal(key, lead, next) {
             C::merge(&mut cell, other)?;
         } else {
@@ -116,10 +109,11 @@ pub(crate) fn reduce_partition<L: Parted, R: Reducer<L::Fold>>(
     requires few { parts ≤ 64 }
     requires part { part < parts }
     ensures part { IfOk result (λ p. p.part ≡ part) }
-    ensures reduced { IfOk result (λ p. IsReducedAt L.Key.cmp (λ k. joined_by L.Fold.merged (λ h. L.cell h.local k) mapped.now) (L.part_of parts) L.Fold.over R.answer part p) }
+    ensures reduced { IfOk result
+        (λ p. IsReducedAt L.Key.cmp (λ k. joined_by L.Fold.merged (λ h. L.cell h.local k) mapped.now)
+        (L.part_of parts) L.Fold.over R.answer part p) }
 {
-    let read = read_hands(alloc, mapped, part, parts)?;
-    let entries = order(alloc, read)?;
+    let entries = read_hands(alloc, mapped, part, parts)?;
     let made = reduce_entries::<L::Key, L::Fold, R>(alloc, part, entries)?;
     Ok(made)
 }

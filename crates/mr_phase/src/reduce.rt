@@ -35,8 +35,12 @@ fn reduce_through<Q: TaskQueues, L: Parted, R: Reducer<L::Fold>>(
 )
     requires total { Q.total queues.now ≡ parts }
     requires parts { (1 ≤ parts) × (parts ≤ 64) }
-    requires fresh { IsFresh (Q.is_of queues.now) Q.number Q.given (HaveReduced L.Key.cmp (λ k. joined_by L.Fold.merged (λ h. L.cell h.local k) mapped.now) (L.part_of parts) L.Fold.over R.answer) work.old }
-    ensures { IsDone (Q.is_of queues.now) Q.number Q.given Q.ended anywhere (HaveReduced L.Key.cmp (λ k. joined_by L.Fold.merged (λ h. L.cell h.local k) mapped.now) (L.part_of parts) L.Fold.over R.answer) itself work.old work.new }
+    requires fresh { IsFresh (Q.is_of queues.now) Q.number Q.given
+        (HaveReduced L.Key.cmp (λ k. joined_by L.Fold.merged (λ h. L.cell h.local k) mapped.now) (L.part_of parts) L.Fold.over R.answer)
+        work.old }
+    ensures { IsDone (Q.is_of queues.now) Q.number Q.given Q.ended anywhere
+        (HaveReduced L.Key.cmp (λ k. joined_by L.Fold.merged (λ h. L.cell h.local k) mapped.now) (L.part_of parts) L.Fold.over R.answer)
+        itself work.old work.new }
 {
     loop {
         if work.tasks.room().is_err() {
@@ -81,14 +85,23 @@ where
     requires some { 0 < length works.old.items }
     requires total { Q.total queues.now ≡ parts }
     requires parts { (1 ≤ parts) × (parts ≤ 64) }
-    requires fresh { AreFresh (Q.is_of queues.now) Q.number Q.given (HaveReduced L.Key.cmp (λ k. joined_by L.Fold.merged (λ h. L.cell h.local k) mapped.now) (L.part_of parts) L.Fold.over R.answer) works.old.items }
+    requires fresh { AreFresh (Q.is_of queues.now) Q.number Q.given
+        (HaveReduced L.Key.cmp (λ k. joined_by L.Fold.merged (λ h. L.cell h.local k) mapped.now) (L.part_of parts) L.Fold.over R.answer)
+        works.old.items }
     ensures len { length works.new.items ≡ length works.old.items }
-    ensures done { AreDone (Q.is_of queues.now) Q.number Q.given Q.ended anywhere (HaveReduced L.Key.cmp (λ k. joined_by L.Fold.merged (λ h. L.cell h.local k) mapped.now) (L.part_of parts) L.Fold.over R.answer) itself works.old.items works.new.items }
+    ensures done { AreDone (Q.is_of queues.now) Q.number Q.given Q.ended anywhere
+        (HaveReduced L.Key.cmp (λ k. joined_by L.Fold.merged (λ h. L.cell h.local k) mapped.now) (L.part_of parts) L.Fold.over R.answer)
+        itself works.old.items works.new.items }
 {
     let count = works.len();
     let reduce_one = |_: usize, work: &mut Work<Q::Pass, Few<Partition<L::Key>>>|
-        requires { (Q.total queues.now ≡ parts) × ((1 ≤ parts) × (parts ≤ 64)) × IsFresh (Q.is_of queues.now) Q.number Q.given (HaveReduced L.Key.cmp (λ k. joined_by L.Fold.merged (λ h. L.cell h.local k) mapped.now) (L.part_of parts) L.Fold.over R.answer) work.old }
-        ensures { IsDone (Q.is_of queues.entry.now) Q.number Q.given Q.ended anywhere (HaveReduced L.Key.cmp (λ k. joined_by L.Fold.merged (λ h. L.cell h.local k) mapped.entry.now) (L.part_of parts) L.Fold.over R.answer) itself work.old work.new }
+        requires { (Q.total queues.now ≡ parts) × ((1 ≤ parts) × (parts ≤ 64))
+            × IsFresh (Q.is_of queues.now) Q.number Q.given
+            (HaveReduced L.Key.cmp (λ k. joined_by L.Fold.merged (λ h. L.cell h.local k) mapped.now)
+            (L.part_of parts) L.Fold.over R.answer) work.old }
+        ensures { IsDone (Q.is_of queues.entry.now) Q.number Q.given Q.ended anywhere
+            (HaveReduced L.Key.cmp (λ k. joined_by L.Fold.merged (λ h. L.cell h.local k) mapped.entry.now)
+            (L.part_of parts) L.Fold.over R.answer) itself work.old work.new }
     { reduce_through::<Q, L, R>(alloc, queues, mapped, parts, work) };
     thread::for_each_mut(rt, works.as_mut_slice(), count, &reduce_one);
 }
@@ -131,12 +144,13 @@ fn in_order<K: Drop>(
     Ok(all)
 }
 
-/// Reduces each partition once: workers on threads take the partitions from the queues. Worker `w` has pass `w`, and runs in a thread of its own where
-/// one can be made; one worker alone runs on the calling thread.
+/// Reduces each partition once: workers on threads take the partitions from the queues. Worker `w` has pass `w`, and runs in a thread of
+/// its own where one can be made; one worker alone runs on the calling thread.
 ///
-/// There is a list of rows for each partition, in the order of their numbers. The cells of a key are merged over all hands, and a key whose merged
-/// cell is not over has a row; the least that is over is noted beside the faults of the hands. Where the hands together stand for what some tasks
-/// emit, each task once, the lists together have the rows of that and the faults are its faults, whichever hand has which task.
+/// There is a list of rows for each partition, in the order of their numbers. The cells of a key are merged over all hands, and a key whose
+/// merged cell is not over has a row; the least that is over is noted beside the faults of the hands. Where the hands together stand for
+/// what some tasks emit, each task once, the lists together have the rows of that and the faults are its faults, whichever hand has which
+/// task.
 pub fn reduce_phase<
     T: Threads + Sync,
     Q: TaskQueues + Sync + Drop,
@@ -162,9 +176,12 @@ where
     ensures count { IfOk result (λ r. length r.lists.items ≡ partitions) }
     ensures ascend { IfOk result (λ r. All (λ list. IsStrictlySortedBy L.Key.cmp (map (λ row. row.0) list)) r.lists.items) }
     ensures differ { IfOk result (λ r. IsDistinct (eq_by_cmp L.Key.cmp) (map (λ row. row.0) (concatenated r.lists.items))) }
-    ensures cells { IfOk result (λ r. (k : L.Key) → find L.Key.cmp k (concatenated r.lists.items) ≡ option_and_then (outcome L.Fold.over R.answer) (joined_by L.Fold.merged (λ h. L.cell h.local k) mapped.now)) }
+    ensures cells { IfOk result
+        (λ r. (k : L.Key) → find L.Key.cmp k (concatenated r.lists.items)
+        ≡ option_and_then (outcome L.Fold.over R.answer) (joined_by L.Fold.merged (λ h. L.cell h.local k) mapped.now)) }
     ensures tasks { IfOk result (λ r. (pairs : ℕ → List (Emission L.Key L.Value)) (all : List ℕ)
-        → All (λ h. L.stands h.local (flat_map pairs h.tasks.items)) mapped.now → IsPermutation all (flat_map (λ h. h.tasks.items) mapped.now)
+        → All (λ h. L.stands h.local (flat_map pairs h.tasks.items)) mapped.now
+        → IsPermutation all (flat_map (λ h. h.tasks.items) mapped.now)
         → IsSpreadOf L.Key.cmp L.inside R.folded r.lists.items (noted_of r.faults) (flat_map pairs all)) }
 {
     let shares = Few::with_room(alloc, passes.len() as u32)?;

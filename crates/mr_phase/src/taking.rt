@@ -48,7 +48,9 @@ impl TaskQueues for Blocks {
     fn take(&self, pass: &mut BlockPass) -> Option<u32>
         requires { IsBlockOf self.now pass.old }
         ensures same { IsBlockOf self.now pass.new × (pass.new.number ≡ pass.old.number) }
-        ensures some { IfSome result (λ t. (t < self.now.tasks) × IsPermutation (given_of pass.old ++ t ∷ []) (given_of pass.new) × (pass.new.ended ≡ pass.old.ended)) }
+        ensures some { IfSome result
+            (λ t. (t < self.now.tasks) × IsPermutation (given_of pass.old ++ t ∷ []) (given_of pass.new)
+            × (pass.new.ended ≡ pass.old.ended)) }
         ensures none { IfNone result ((given_of pass.new ≡ given_of pass.old) × (pass.new.ended ≡ true)) }
         ensures later { pass.old.ended ≡ true → IsNone result }
         ensures order { result ≡ slice_get (block_of self.now.tasks self.now.queues pass.old.number) (length (given_of pass.old)) }

@@ -1,7 +1,8 @@
-ghost use Rattle.std.specs.Prelude.{◌≡◌, ◌∷◌, [], IfOk};
+ghost use Rattle.std.specs.Prelude.{◌≡◌, ◌∷◌, [], IfOk, OnOk};
+ghost use Rattle.mr_phase.specs.Taking.{IsAhead};
 ghost use Rattle.mr_phase.specs.declared.hands.Hand.{Hand};
 
-use crate::order::order;
+use crate::ahead::Ahead;
 use crate::{Hand, Mapped, gather};
 use mr_base::{ByteKey, Fault, Few, Key, Memory, NumKey, Rows, Text};
 use mr_combine::{Plain, Sum};
@@ -76,6 +77,21 @@ fn keys_that_are_over(rt: HostRuntime) -> Result<(), Fail> {
     Ok(())
 }
 
+// Takes the next entry, and appends its number.
+fn push_next(
+    alloc: Global,
+    ahead: &mut Ahead<'_, ByteKey, i32>,
+    text: &mut Text,
+) -> Result<(), Memory>
+    requires { IsAhead ⟦<ByteKey as Key>⟧.lead_of ahead.old }
+    ensures { OnOk result (IsAhead ⟦<ByteKey as Key>⟧.lead_of ahead.new) }
+{
+    if let Some((_, _, number)) = ahead.take(alloc)? {
+        text.push_number(*number as i128)?;
+    }
+    Ok(())
+}
+
 #[test]
 fn keys_of_one_lead(rt: HostRuntime) -> Result<(), Fail> {
     let alloc = rt.alloc();
@@ -85,9 +101,11 @@ fn keys_of_one_lead(rt: HostRuntime) -> Result<(), Fail> {
     let greatest = ByteKey::of(alloc, b"b")?;
     let entries = vec![in alloc; (&greatest, &4), (&long, &3), (&short, &1), (&longest, &2)]?;
     let mut text = Text::new(alloc);
-    for entry in &order(alloc, entries)? {
-        text.push_number(*entry.1 as i128)?;
-    }
+    let mut ahead = Ahead::of(alloc, entries)?;
+    push_next(alloc, &mut ahead, &mut text)?;
+    push_next(alloc, &mut ahead, &mut text)?;
+    push_next(alloc, &mut ahead, &mut text)?;
+    push_next(alloc, &mut ahead, &mut text)?;
     assert!(rt; text.as_bytes() == b"1234".as_slice());
     Ok(())
 }

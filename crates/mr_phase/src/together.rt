@@ -48,7 +48,8 @@ fn collect<K: Key>(
     ensures malformed { IfOk result (λ r. r.faults.malformed ≡ faults.malformed) }
     ensures outside { IfOk result (λ r. r.faults.outside ≡ faults.outside) }
     ensures twice { IfOk result (λ r. r.faults.twice ≡ faults.twice) }
-    ensures over { IfOk result (λ r. r.faults.over ≡ joined (lesser K.cmp) faults.over (joined_by (lesser K.cmp) (λ p. p.over) partitions.items)) }
+    ensures over { IfOk result
+        (λ r. r.faults.over ≡ joined (lesser K.cmp) faults.over (joined_by (lesser K.cmp) (λ p. p.over) partitions.items)) }
 {
     let mut lists = Few::with_room(alloc, 1)?;
     let mut noted = faults;
@@ -73,13 +74,17 @@ pub(crate) fn together<L: Parted, R: Reducer<L::Fold>>(
 ) -> Result<Reduced<L::Key>, Memory>
     requires some { 1 ≤ parts }
     requires count { length partitions.items ≡ parts }
-    requires each { AreReduced L.Key.cmp (λ k. joined_by L.Fold.merged (λ h. L.cell h.local k) mapped.now) (L.part_of parts) L.Fold.over R.answer partitions.items }
+    requires each { AreReduced L.Key.cmp (λ k. joined_by L.Fold.merged (λ h. L.cell h.local k) mapped.now)
+        (L.part_of parts) L.Fold.over R.answer partitions.items }
     ensures count { IfOk result (λ r. length r.lists.items ≡ parts) }
     ensures ascend { IfOk result (λ r. All (λ list. IsStrictlySortedBy L.Key.cmp (map (λ row. row.0) list)) r.lists.items) }
     ensures differ { IfOk result (λ r. IsDistinct (eq_by_cmp L.Key.cmp) (map (λ row. row.0) (concatenated r.lists.items))) }
-    ensures cells { IfOk result (λ r. (k : L.Key) → find L.Key.cmp k (concatenated r.lists.items) ≡ option_and_then (outcome L.Fold.over R.answer) (joined_by L.Fold.merged (λ h. L.cell h.local k) mapped.now)) }
+    ensures cells { IfOk result
+        (λ r. (k : L.Key) → find L.Key.cmp k (concatenated r.lists.items)
+        ≡ option_and_then (outcome L.Fold.over R.answer) (joined_by L.Fold.merged (λ h. L.cell h.local k) mapped.now)) }
     ensures tasks { IfOk result (λ r. (pairs : ℕ → List (Emission L.Key L.Value)) (all : List ℕ)
-        → All (λ h. L.stands h.local (flat_map pairs h.tasks.items)) mapped.now → IsPermutation all (flat_map (λ h. h.tasks.items) mapped.now)
+        → All (λ h. L.stands h.local (flat_map pairs h.tasks.items)) mapped.now
+        → IsPermutation all (flat_map (λ h. h.tasks.items) mapped.now)
         → IsSpreadOf L.Key.cmp L.inside R.folded r.lists.items (noted_of r.faults) (flat_map pairs all)) }
 {
     let faults = merge_faults(alloc, mapped)?;

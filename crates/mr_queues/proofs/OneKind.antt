@@ -1,5 +1,6 @@
 -- Passes of one kind among those of any.
-use Rattle.std.proofs.Common.{◌≡◌, ℕ, suc, ◌<◌, Bool, List, [], ◌∷◌, ◌++◌, length, map, flat_map, Option, Some, refl, sym, ap, subst, ◌∙◌, arith}
+use Rattle.std.proofs.Common.{◌≡◌, ℕ, suc, ◌<◌, Bool, List, [], ◌∷◌, ◌++◌, length, map, flat_map, Option, Some, refl, sym, ap, subst, ◌∙◌}
+use Rattle.std.proofs.Common.{arith}
 use Rattle.std.specs.Prelude.{filter_map, slice_index_or}
 use Rattle.std.specs.List.{cons_option, range_with_len}
 use Rattle.std.specs.List.Sorted.{IsPermutation}
@@ -19,7 +20,8 @@ module _ {P A : Type 0} (f : P → A) where
   length_as : (ps : List P) (i : ℕ) → i < length (map f ps) → i < length ps
   length_as ps i h = subst (λ n. i < n) (length-map ps f) h
 
-  module _ (number : P → ℕ) (number_any : A → ℕ) (numbers : (p : P) → number_any (f p) ≡ number p) (is_of : P → Type 0) (is_any : A → Type 0) (count : ℕ) (ps : List P) where
+  module _ (number : P → ℕ) (number_any : A → ℕ) (numbers : (p : P) → number_any (f p) ≡ number p) (is_of : P → Type 0)
+      (is_any : A → Type 0) (count : ℕ) (ps : List P) where
     pub all_any : ((p : P) → is_of p → is_any (f p)) → AreAll count is_of number ps → AreAll count is_any number_any (map f ps)
     all_any of all = (
       length-map ps f ∙ all.0,
@@ -44,7 +46,8 @@ module _ {P A : Type 0} (f : P → A) where
               ),
         )
 
-  module _ (given : P → List ℕ) (given_any : A → List ℕ) (lists : (p : P) → given_any (f p) ≡ given p) (ended : P → Bool) (ended_any : A → Bool) (ends : (p : P) → ended_any (f p) ≡ ended p) (ps : List P) where
+  module _ (given : P → List ℕ) (given_any : A → List ℕ) (lists : (p : P) → given_any (f p) ≡ given p) (ended : P → Bool)
+      (ended_any : A → Bool) (ends : (p : P) → ended_any (f p) ≡ ended p) (ps : List P) where
     pub unused_any : AreUnused given ended ps → AreUnused given_any ended_any (map f ps)
     unused_any unused = λ i d h.
         let short = length_as ps i h in
@@ -63,9 +66,11 @@ module _ {P A : Type 0} (f : P → A) where
 
     pub ended_own : HaveEnded ended_any (map f ps) → HaveEnded ended ps
     ended_own have = λ i e h.
-        sym (ends (slice_index_or ps i e)) ∙ ap ended_any (sym (at ps i (f e) e h)) ∙ have i (f e) (subst (λ n. i < n) (sym (length-map ps f)) h)
+        sym (ends (slice_index_or ps i e)) ∙ ap ended_any (sym (at ps i (f e) e h))
+        ∙ have i (f e) (subst (λ n. i < n) (sym (length-map ps f)) h)
 
-  pub ended_any_all : (ended : P → Bool) (ended_any : A → Bool) → ((p : P) → ended_any (f p) ≡ ended p) → (ps : List P) → HaveEnded ended ps → HaveEnded ended_any (map f ps)
+  pub ended_any_all : (ended : P → Bool) (ended_any : A → Bool) → ((p : P) → ended_any (f p) ≡ ended p) → (ps : List P)
+      → HaveEnded ended ps → HaveEnded ended_any (map f ps)
   ended_any_all ended ended_any ends ps have = λ i d h.
       let short = length_as ps i h in
       let e = some ps i short in
@@ -82,7 +87,8 @@ module _ {P A : Type 0} (f : P → A) where
     pub given_own_all : (n : ℕ) (ps : List P) → AreAllGiven n given_any (map f ps) → AreAllGiven n given ps
     given_own_all n ps all = subst (IsPermutation (range_with_len 0 n)) (sym (same_lists ps)) all
 
-  module _ (within : A → Option P) (is_any : A → Type 0) (own : (p : P) → within (f p) ≡ Some p) (kind : (a : A) → is_any a → (p : P) × (a ≡ f p)) where
+  module _ (within : A → Option P) (is_any : A → Type 0) (own : (p : P) → within (f p) ≡ Some p)
+      (kind : (a : A) → is_any a → (p : P) × (a ≡ f p)) where
     -- where all are of the kind, they are what is picked of them
     pub all_kept : (xs : List A) → ((i : ℕ) (d : A) → i < length xs → is_any (slice_index_or xs i d)) → xs ≡ map f (filter_map within xs)
     all_kept [] all = refl

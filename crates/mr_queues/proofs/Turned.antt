@@ -19,7 +19,8 @@ module _ {X Y : Type 0} (h : X → Option Y) where
   pub given_first : (turned all : List X) → turned ≡ reverse all → filter_map h (reverse turned) ≡ filter_map h all
   given_first turned all is = ap (λ t. filter_map h (reverse t)) is ∙ ap (filter_map h) (reverse-reverse all)
 
-  pub given_next : (done : List Y) (before after : List X) (x : X) → before ≡ after ++ x ∷ [] → given_so_far done before ≡ done ++ cons_option (h x) (filter_map h (reverse after))
+  pub given_next : (done : List Y) (before after : List X) (x : X) → before ≡ after ++ x ∷ []
+      → given_so_far done before ≡ done ++ cons_option (h x) (filter_map h (reverse after))
   given_next done before after x is = ap (λ t. done ++ filter_map h t) (turned_last before after x is)
 
 -- the same where each item gives one
@@ -30,6 +31,8 @@ module _ {X Y : Type 0} (f : X → Y) where
   pub mapped_first : (turned all : List X) → turned ≡ reverse all → map f (reverse turned) ≡ map f all
   mapped_first turned all is = ap (λ t. map f (reverse t)) is ∙ ap (map f) (reverse-reverse all)
 
-  pub mapped_next : (done more : List Y) (before after : List X) (x : X) → before ≡ after ++ x ∷ [] → more ≡ done ++ f x ∷ [] → mapped_so_far more after ≡ mapped_so_far done before
+  pub mapped_next : (done more : List Y) (before after : List X) (x : X) → before ≡ after ++ x ∷ [] → more ≡ done ++ f x ∷ []
+      → mapped_so_far more after ≡ mapped_so_far done before
   mapped_next done more before after x is pushed =
-      ap (λ m. m ++ map f (reverse after)) pushed ∙ append_assoc done (f x ∷ []) (map f (reverse after)) ∙ ap (λ t. done ++ map f t) (sym (turned_last before after x is))
+      ap (λ m. m ++ map f (reverse after)) pushed ∙ append_assoc done (f x ∷ []) (map f (reverse after))
+      ∙ ap (λ t. done ++ map f t) (sym (turned_last before after x is))

@@ -1,6 +1,8 @@
 -- What is seen of queues, whichever kind they have.
 use Rattle.std.specs.Prelude.{◌≡◌, ℕ, length}
 use Rattle.mr_base.specs.Tasks.{total_of}
+use Rattle.mr_capacity.specs.declared.kinds.QueueKind.{QueueKind}
+use Rattle.mr_capacity.specs.declared.kinds.QueueKind.TheVariants as kind
 use Rattle.mr_phase.specs.Blocks as block
 use Rattle.mr_claims.specs.Passes as claim
 use Rattle.mr_deques.specs.Passes as deque
@@ -9,6 +11,12 @@ use Rattle.mr_queues.specs.declared.any.AnyPass.{AnyPass}
 use Rattle.mr_queues.specs.declared.any.AnyPass.TheVariants as pass
 use Rattle.mr_queues.specs.declared.any.AnyQueues.{AnyQueues}
 use Rattle.mr_queues.specs.declared.any.AnyQueues.TheVariants.{Blocks, Claims, Deques}
+
+-- the kind that a job file names them by
+abbrev pub kind_of : AnyQueues → QueueKind
+kind_of (Blocks q) = kind.Blocks
+kind_of (Claims q) = kind.Ranges
+kind_of (Deques q) = kind.Deques
 
 abbrev pub total : AnyQueues → ℕ
 total (Blocks q) = q.tasks

@@ -11,7 +11,8 @@ pub enum AnyQueues {
     Deques(Deques),
 }
 
-/// A pass of queues of one kind, and room for passes: where it is the first one, for all of these queues, so that they are handed back without memory.
+/// A pass of queues of one kind, and room for passes: where it is the first one, for all of these queues, so that they are handed back
+/// without memory.
 #[derive(Drop)]
 pub enum AnyPass {
     Blocks(BlockPass, Few<BlockPass>),

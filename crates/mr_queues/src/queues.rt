@@ -1,7 +1,8 @@
 ghost use Rattle.std.specs.Prelude.{◌≡◌, length, IfOk};
+ghost use Rattle.mr_capacity.specs.declared.kinds.QueueKind.TheVariants as kinds;
 ghost use Rattle.mr_base.specs.Tasks.{AreAll, AreAllGiven, AreUnused, HaveEnded, total_of};
 ghost use Rattle.mr_queues.specs.Passes.{ended, given, number};
-ghost use Rattle.mr_queues.specs.Queues.{IsAnyOf, count, total};
+ghost use Rattle.mr_queues.specs.Queues.{IsAnyOf, count, kind_of, total};
 ghost use Rattle.mr_queues.specs.QueuesLaws.{apart};
 
 use crate::any::{AnyPass, AnyQueues};
@@ -15,6 +16,7 @@ use std::alloc::Global;
 
 // Blocks, one for each of these ranges.
 fn blocks(alloc: Global, ranges: &Ranges) -> Result<(AnyQueues, Few<AnyPass>), Memory>
+    ensures kind { IfOk result (λ r. kind_of r.0 ≡ kinds.Blocks) }
     ensures counts { IfOk result (λ r. (total r.0 ≡ total_of ranges.now) × (count r.0 ≡ length ranges.now)) }
     ensures passes { IfOk result (λ r. AreAll (count r.0) (IsAnyOf r.0) number r.1.items) }
     ensures unused { IfOk result (λ r. AreUnused given ended r.1.items) }
@@ -26,6 +28,7 @@ fn blocks(alloc: Global, ranges: &Ranges) -> Result<(AnyQueues, Few<AnyPass>), M
 
 // Claimed ranges.
 fn claims(alloc: Global, ranges: &Ranges) -> Result<(AnyQueues, Few<AnyPass>), Memory>
+    ensures kind { IfOk result (λ r. kind_of r.0 ≡ kinds.Ranges) }
     ensures counts { IfOk result (λ r. (total r.0 ≡ total_of ranges.now) × (count r.0 ≡ length ranges.now)) }
     ensures passes { IfOk result (λ r. AreAll (count r.0) (IsAnyOf r.0) number r.1.items) }
     ensures unused { IfOk result (λ r. AreUnused given ended r.1.items) }
@@ -37,6 +40,7 @@ fn claims(alloc: Global, ranges: &Ranges) -> Result<(AnyQueues, Few<AnyPass>), M
 
 // Stealing deques, filled with these ranges.
 fn deques(alloc: Global, ranges: &Ranges) -> Result<(AnyQueues, Few<AnyPass>), Memory>
+    ensures kind { IfOk result (λ r. kind_of r.0 ≡ kinds.Deques) }
     ensures counts { IfOk result (λ r. (total r.0 ≡ total_of ranges.now) × (count r.0 ≡ length ranges.now)) }
     ensures passes { IfOk result (λ r. AreAll (count r.0) (IsAnyOf r.0) number r.1.items) }
     ensures unused { IfOk result (λ r. AreUnused given ended r.1.items) }
@@ -53,6 +57,7 @@ impl AnyQueues {
         kind: QueueKind,
         ranges: &Ranges,
     ) -> Result<(AnyQueues, Few<AnyPass>), Memory>
+        ensures kind { IfOk result (λ r. kind_of r.0 ≡ kind) }
         ensures counts { IfOk result (λ r. (total r.0 ≡ total_of ranges.now) × (count r.0 ≡ length ranges.now)) }
         ensures passes { IfOk result (λ r. AreAll (count r.0) (IsAnyOf r.0) number r.1.items) }
         ensures unused { IfOk result (λ r. AreUnused given ended r.1.items) }

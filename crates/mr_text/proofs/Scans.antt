@@ -1,5 +1,6 @@
 -- Where a run of bytes that pass a test ends, from a place on.
-use Rattle.std.proofs.Common.{◌≡◌, ℕ, ◌+◌, ◌-◌, ◌<◌, ◌≤◌, ◌==◌, ◌&&◌, ◌||◌, Bool, true, false, not, List, length, drop, get_or, sym, ◌∙◌, ap, arith}
+use Rattle.std.proofs.Common.{◌≡◌, ℕ, ◌+◌, ◌-◌, ◌<◌, ◌≤◌, ◌==◌, ◌&&◌, ◌||◌, Bool, true, false, not, List, length, drop, get_or, sym, ◌∙◌}
+use Rattle.std.proofs.Common.{ap, arith}
 use Rattle.std.specs.List.{prefix_len}
 use Rattle.std.proofs.lemmas.List.{length-drop, get_or-drop}
 use Rattle.mr_items.specs.Words.{is_word_byte, is_word_boundary}
@@ -21,7 +22,8 @@ module _ (p : ℕ → Bool) (xs : List ℕ) (a : ℕ) where
       ap p (sym (get_or-drop a xs (k - a) 0 ∙ ap (λ i. get_or xs i 0) there)) ∙ prefix_len_passes p (drop a xs) (k - a) 0 (omega arith)
 
   pub run_stops : run_end < length xs → p (get_or xs run_end 0) ≡ false
-  run_stops below = ap p (sym (get_or-drop a xs (prefix_len p (drop a xs)) 0)) ∙ prefix_len_stops p (drop a xs) 0 (omega (arith, size, below))
+  run_stops below =
+      ap p (sym (get_or-drop a xs (prefix_len p (drop a xs)) 0)) ∙ prefix_len_stops p (drop a xs) 0 (omega (arith, size, below))
 
 -- a place whose byte belongs to no word is a boundary
 pub boundary_from_other : (bs : List ℕ) (e : ℕ) → is_word_byte (get_or bs e 0) ≡ false → is_word_boundary bs e ≡ true

@@ -59,7 +59,8 @@ module _ {S E : Type 0} (stands : S → List E → Type 0) where
   pub all_stands : (old new : S) (all : List E) → Sent stands old new all [] → (ds : List E) → stands old ds → stands new (ds ++ all)
   all_stands old new all sent ds h = let s = sent ds h in subst (λ l. stands new (ds ++ l)) (sym (append-nil s.0) ∙ s.2) s.1
 
-  pub some_stands : (old new : S) (all : List E) → SentSome stands old new all → (ds : List E) → stands old ds → (n : ℕ) × stands new (ds ++ take n all)
+  pub some_stands : (old new : S) (all : List E) → SentSome stands old new all → (ds : List E) → stands old ds
+      → (n : ℕ) × stands new (ds ++ take n all)
   some_stands old new all some ds h =
       let s = some ds h in
       (length s.0, subst (λ l. stands new (ds ++ l)) (sym (ap (take (length s.0)) (sym s.3) ∙ take_at s.0 s.1 (length s.0) refl)) s.2)

@@ -1,9 +1,11 @@
 -- The words of a stretch of a text, and where they stand in the whole of it.
-use Rattle.std.proofs.Common.{◌≡◌, inl, inr, ℕ, zero, suc, ◌+◌, ◌-◌, ◌<◌, ◌≤◌, ◌==◌, ◌&&◌, ◌||◌, Bool, true, false, not, cond, List, [], ◌∷◌, ◌++◌, length, take, drop, map, get_or, refl, sym, ◌∙◌, ap, ap₂, arith, pos}
+use Rattle.std.proofs.Common.{◌≡◌, inl, inr, ℕ, zero, suc, ◌+◌, ◌-◌, ◌<◌, ◌≤◌, ◌==◌, ◌&&◌, ◌||◌, Bool, true, false, not, cond, List, []}
+use Rattle.std.proofs.Common.{◌∷◌, ◌++◌, length, take, drop, map, get_or, refl, sym, ◌∙◌, ap, ap₂, arith, pos}
 use Rattle.std.specs.Prelude.{filter, flat_map, slice_range}
 use Rattle.std.specs.List.{prefix_len, range_with_len}
 use Rattle.std.proofs.lemmas.Bool.{cases_lt, ne_eqb}
-use Rattle.std.proofs.lemmas.List.{map-append, length-take-le, take-take, drop-drop, length-drop, get_or-take, get_or-drop, drop-take, take_all}
+use Rattle.std.proofs.lemmas.List.{map-append, length-take-le, take-take, drop-drop, length-drop, get_or-take, get_or-drop, drop-take}
+use Rattle.std.proofs.lemmas.List.{take_all}
 use Rattle.std.proofs.lemmas.List.Concat.{flat_map_single}
 use Rattle.std.proofs.lemmas.List.Elements.{filter-append}
 use Rattle.std.proofs.lemmas.List.Sums.{prefix_len-le-length}
@@ -22,7 +24,8 @@ prefix_take test zero (y ∷ ys) h = omega (arith, h)
 prefix_take test (suc m) [] h = refl
 prefix_take test (suc m) (y ∷ ys) h = by (test y) h (prefix_take test m ys)
   where
-    by : (b : Bool) → cond b (1 + prefix_len test ys) 0 ≤ suc m → (prefix_len test ys ≤ m → prefix_len test (take m ys) ≡ prefix_len test ys)
+    by : (b : Bool) → cond b (1 + prefix_len test ys) 0 ≤ suc m
+        → (prefix_len test ys ≤ m → prefix_len test (take m ys) ≡ prefix_len test ys)
         → cond b (1 + prefix_len test (take m ys)) 0 ≡ cond b (1 + prefix_len test ys) 0
     by true h same = ap (λ n. 1 + n) (same (omega (arith, h)))
     by false h same = refl
@@ -40,7 +43,8 @@ module _ (text : List ℕ) (from to : ℕ) (order : from ≤ to) (inside : to �
   rest_at : (p : ℕ) → p ≤ to - from → drop p stretch ≡ take (to - from - p) (drop (from + p) text)
   rest_at p h =
       let whole : to - from ≡ p + (to - from - p) = omega (arith, h) in
-      ap (λ n. drop p (take n (drop from text))) whole ∙ drop-take p (to - from - p) (drop from text) ∙ ap (take (to - from - p)) (drop-drop p from text)
+      ap (λ n. drop p (take n (drop from text))) whole ∙ drop-take p (to - from - p) (drop from text)
+      ∙ ap (take (to - from - p)) (drop-drop p from text)
 
   -- a run of it, as a stretch of the text
   module _ (test : ℕ → Bool) (p : ℕ) (h : p ≤ to - from) where
@@ -63,7 +67,8 @@ module _ (text : List ℕ) (from to : ℕ) (order : from ≤ to) (inside : to �
     begins_same zero h =
         let no_end : (from == length text) ≡ false = ne_eqb from (length text) (λ e. omega (arith, e, h, inside)) in
         let here : from + 0 ≡ from = omega arith in
-        ap (λ x. is_word_byte x && (true || not (is_word_byte (get_or stretch (0 - 1) 0)))) (stretch_at 0 h ∙ ap (λ k. get_or text k 0) here)
+        ap (λ x. is_word_byte x && (true || not (is_word_byte (get_or stretch (0 - 1) 0))))
+        (stretch_at 0 h ∙ ap (λ k. get_or text k 0) here)
         ∙ go (from == 0) (from == length text) (is_word_byte (get_or text (from - 1) 0)) (is_word_byte (get_or text from 0)) no_end starts
         ∙ ap (λ k. begins is_word_byte text k) (sym here)
       where
@@ -74,8 +79,10 @@ module _ (text : List ℕ) (from to : ℕ) (order : from ≤ to) (inside : to �
         let one : (suc p == 0) ≡ false = ne_eqb (suc p) 0 (λ e. omega (arith, e)) in
         let before : suc p - 1 ≡ p = omega arith in
         let there : from + p ≡ from + suc p - 1 = omega arith in
-        ap₂ (λ x (z : Bool). is_word_byte x && (z || not (is_word_byte (get_or stretch (suc p - 1) 0)))) (stretch_at (suc p) h) (one ∙ sym some)
-        ∙ ap (λ y. is_word_byte (get_or text (from + suc p) 0) && ((from + suc p == 0) || not (is_word_byte y))) (ap (λ k. get_or stretch k 0) before ∙ stretch_at p (omega (arith, h)) ∙ ap (λ k. get_or text k 0) there)
+        ap₂ (λ x (z : Bool). is_word_byte x && (z || not (is_word_byte (get_or stretch (suc p - 1) 0)))) (stretch_at (suc p) h)
+        (one ∙ sym some)
+        ∙ ap (λ y. is_word_byte (get_or text (from + suc p) 0) && ((from + suc p == 0) || not (is_word_byte y)))
+        (ap (λ k. get_or stretch k 0) before ∙ stretch_at p (omega (arith, h)) ∙ ap (λ k. get_or text k 0) there)
 
     -- no word goes over its end
     within : (p : ℕ) → p < to - from → prefix_len is_word_byte (drop (from + p) text) ≤ to - from - p
@@ -98,17 +105,24 @@ module _ (text : List ℕ) (from to : ℕ) (order : from ≤ to) (inside : to �
     word_same p h =
         let ys = drop (from + p) text in
         let m = to - from - p in
-        let same : prefix_len is_word_byte (drop p stretch) ≡ prefix_len is_word_byte ys = ap (prefix_len is_word_byte) (rest_at p (omega (arith, h))) ∙ prefix_take is_word_byte m ys (within p h) in
+        let same : prefix_len is_word_byte (drop p stretch) ≡ prefix_len is_word_byte ys =
+        ap (prefix_len is_word_byte) (rest_at p (omega (arith, h))) ∙ prefix_take is_word_byte m ys (within p h) in
         ap (map lower) (ap₂ take same (rest_at p (omega (arith, h))) ∙ take-take (prefix_len is_word_byte ys) m ys (within p h))
 
-    shifted : (n p : ℕ) → p + n ≤ to - from → map (word_at stretch) (filter (begins is_word_byte stretch) (range_with_len p n)) ≡ map (word_at text) (filter (begins is_word_byte text) (range_with_len (from + p) n))
+    shifted : (n p : ℕ) → p + n ≤ to - from
+        → map (word_at stretch) (filter (begins is_word_byte stretch) (range_with_len p n))
+        ≡ map (word_at text) (filter (begins is_word_byte text) (range_with_len (from + p) n))
     shifted zero p h = refl
     shifted (suc n) p h =
         let there : from + (p + 1) ≡ from + p + 1 = omega arith in
-        by (begins is_word_byte stretch p) _ _ (word_same p (omega (arith, h))) (shifted n (p + 1) (omega (arith, h)) ∙ ap (λ k. map (word_at text) (filter (begins is_word_byte text) (range_with_len k n))) there)
-        ∙ ap (λ b. map (word_at text) (cond b ((from + p) ∷ filter (begins is_word_byte text) (range_with_len (from + p + 1) n)) (filter (begins is_word_byte text) (range_with_len (from + p + 1) n)))) (begins_same p (omega (arith, h)))
+        by (begins is_word_byte stretch p) _ _ (word_same p (omega (arith, h)))
+        (shifted n (p + 1) (omega (arith, h)) ∙ ap (λ k. map (word_at text) (filter (begins is_word_byte text) (range_with_len k n))) there)
+        ∙ ap (λ b. map (word_at text)
+        (cond b ((from + p) ∷ filter (begins is_word_byte text) (range_with_len (from + p + 1) n))
+        (filter (begins is_word_byte text) (range_with_len (from + p + 1) n)))) (begins_same p (omega (arith, h)))
       where
-        by : (b : Bool) (xs ys : List ℕ) → word_at stretch p ≡ word_at text (from + p) → map (word_at stretch) xs ≡ map (word_at text) ys → map (word_at stretch) (cond b (p ∷ xs) xs) ≡ map (word_at text) (cond b ((from + p) ∷ ys) ys)
+        by : (b : Bool) (xs ys : List ℕ) → word_at stretch p ≡ word_at text (from + p) → map (word_at stretch) xs ≡ map (word_at text) ys
+            → map (word_at stretch) (cond b (p ∷ xs) xs) ≡ map (word_at text) (cond b ((from + p) ∷ ys) ys)
         by true xs ys e f = ap₂ (λ w ws. w ∷ ws) e f
         by false xs ys e f = f
 
@@ -120,15 +134,20 @@ module _ (text : List ℕ) (from to : ℕ) (order : from ≤ to) (inside : to �
         ∙ ap (λ k. map (word_at text) (filter (begins is_word_byte text) (range_with_len k (to - from)))) here
 
 -- the words of two stretches, one behind the other
-pub words-append : (text : List ℕ) (a m c : ℕ) → a ≤ m → m ≤ c → c ≤ length text → is_word_boundary text a ≡ true → is_word_boundary text m ≡ true → is_word_boundary text c ≡ true
+pub words-append : (text : List ℕ) (a m c : ℕ) → a ≤ m → m ≤ c → c ≤ length text → is_word_boundary text a ≡ true
+    → is_word_boundary text m ≡ true → is_word_boundary text c ≡ true
     → words (slice_range text a m) ++ words (slice_range text m c) ≡ words (slice_range text a c)
 words-append text a m c le ge inside starts between ends =
     let size : (m - a) + (c - m) ≡ c - a = omega (arith, le, ge) in
     let meets : a + (m - a) ≡ m = omega (arith, le) in
-    ap₂ (λ xs ys. xs ++ ys) (words_of_stretch text a m le (omega (arith, ge, inside)) starts between) (words_of_stretch text m c ge inside between ends)
-    ∙ sym (map-append (word_at text) (filter (begins is_word_byte text) (range_with_len a (m - a))) (filter (begins is_word_byte text) (range_with_len m (c - m))))
+    ap₂ (λ xs ys. xs ++ ys) (words_of_stretch text a m le (omega (arith, ge, inside)) starts between)
+    (words_of_stretch text m c ge inside between ends)
+    ∙ sym (map-append (word_at text) (filter (begins is_word_byte text) (range_with_len a (m - a)))
+    (filter (begins is_word_byte text) (range_with_len m (c - m))))
     ∙ ap (map (word_at text)) (sym (filter-append (begins is_word_byte text) (range_with_len a (m - a)) (range_with_len m (c - m)))
-    ∙ ap (filter (begins is_word_byte text)) (ap (λ k. range_with_len a (m - a) ++ range_with_len k (c - m)) (sym meets) ∙ sym (range-append a (m - a) (c - m)) ∙ ap (range_with_len a) size))
+    ∙ ap (filter (begins is_word_byte text))
+    (ap (λ k. range_with_len a (m - a) ++ range_with_len k (c - m)) (sym meets) ∙ sym (range-append a (m - a) (c - m))
+    ∙ ap (range_with_len a) size))
     ∙ sym (words_of_stretch text a c (omega (arith, le, ge)) inside starts ends)
 
 -- a stretch of nothing has none, one of word bytes alone has one
@@ -137,7 +156,8 @@ no_words text a = let none : a - a ≡ 0 = omega arith in ap (λ n. words (take 
 
 all_one : (xs : List ℕ) → ((k : ℕ) → k < length xs → is_word_byte (get_or xs k 0) ≡ true) → prefix_len is_word_byte xs ≡ length xs
 all_one [] h = refl
-all_one (x ∷ xs) h = ap (λ b. cond b (1 + prefix_len is_word_byte xs) 0) (h 0 (omega arith)) ∙ (let rest = all_one xs (λ k below. h (suc k) (omega (arith, below))) in omega (arith, rest))
+all_one (x ∷ xs) h = ap (λ b. cond b (1 + prefix_len is_word_byte xs) 0) (h 0 (omega arith))
+    ∙ (let rest = all_one xs (λ k below. h (suc k) (omega (arith, below))) in omega (arith, rest))
 
 module _ (xs : List ℕ) (all : (k : ℕ) → k < length xs → is_word_byte (get_or xs k 0) ≡ true) where
   inner : (p : ℕ) → 0 < p → p < length xs → begins is_word_byte xs p ≡ false
@@ -150,20 +170,29 @@ module _ (xs : List ℕ) (all : (k : ℕ) → k < length xs → is_word_byte (ge
 
   none_inside : (n p : ℕ) → 0 < p → p + n ≤ length xs → filter (begins is_word_byte xs) (range_with_len p n) ≡ []
   none_inside zero p past le = refl
-  none_inside (suc n) p past le = ap (λ b. cond b (p ∷ filter (begins is_word_byte xs) (range_with_len (p + 1) n)) (filter (begins is_word_byte xs) (range_with_len (p + 1) n))) (inner p past (omega (arith, le))) ∙ none_inside n (p + 1) (omega arith) (omega (arith, le))
+  none_inside (suc n) p past le = ap
+      (λ b. cond b (p ∷ filter (begins is_word_byte xs) (range_with_len (p + 1) n))
+      (filter (begins is_word_byte xs) (range_with_len (p + 1) n))) (inner p past (omega (arith, le)))
+      ∙ none_inside n (p + 1) (omega arith) (omega (arith, le))
 
-pub one_word : (xs : List ℕ) → 0 < length xs → ((k : ℕ) → k < length xs → is_word_byte (get_or xs k 0) ≡ true) → words xs ≡ map lower xs ∷ []
+pub one_word : (xs : List ℕ) → 0 < length xs → ((k : ℕ) → k < length xs → is_word_byte (get_or xs k 0) ≡ true)
+    → words xs ≡ map lower xs ∷ []
 one_word [] some h = absurd (omega (arith, some))
 one_word (x ∷ xs) some h =
-    ap (λ b. map (word_at (x ∷ xs)) (cond (b && true) (0 ∷ filter (begins is_word_byte (x ∷ xs)) (range_with_len 1 (length xs))) (filter (begins is_word_byte (x ∷ xs)) (range_with_len 1 (length xs))))) (h 0 (omega arith))
+    ap (λ b. map (word_at (x ∷ xs))
+    (cond (b && true) (0 ∷ filter (begins is_word_byte (x ∷ xs)) (range_with_len 1 (length xs)))
+    (filter (begins is_word_byte (x ∷ xs)) (range_with_len 1 (length xs))))) (h 0 (omega arith))
     ∙ ap (λ ps. word_at (x ∷ xs) 0 ∷ map (word_at (x ∷ xs)) ps) (none_inside (x ∷ xs) h (length xs) 1 (omega arith) (omega arith))
     ∙ ap (λ l. map lower l ∷ []) (ap (λ n. take n (x ∷ xs)) (all_one (x ∷ xs) h) ∙ take_all (length (x ∷ xs)) (x ∷ xs) (omega arith))
 
 -- what a piece of the text emits are the words of that stretch
-module _ {K : Type 0} (key : List ℕ → K) (text : List ℕ) (from to : ℕ) (order : from ≤ to) (inside : to ≤ length text) (starts : is_word_boundary text from ≡ true) (ends : is_word_boundary text to ≡ true) where
-  pub piece_words : word_emissions key (pos 1) (slice_range text from to) ≡ task_emissions (word_emits key text) (word_places text) (from, to)
+module _ {K : Type 0} (key : List ℕ → K) (text : List ℕ) (from to : ℕ) (order : from ≤ to) (inside : to ≤ length text)
+    (starts : is_word_boundary text from ≡ true) (ends : is_word_boundary text to ≡ true) where
+  pub piece_words : word_emissions key (pos 1) (slice_range text from to)
+      ≡ task_emissions (word_emits key text) (word_places text) (from, to)
   piece_words =
       ap (map (λ w. Pair (key w) (pos 1))) (words_of_stretch text from to order inside starts ends)
       ∙ map-map (λ w. Pair (key w) (pos 1)) (word_at text) (filter (begins is_word_byte text) (range_with_len from (to - from)))
-      ∙ sym (flat_map_single (λ p. Pair (key (word_at text p)) (pos 1)) (filter (begins is_word_byte text) (range_with_len from (to - from))))
+      ∙ sym
+      (flat_map_single (λ p. Pair (key (word_at text p)) (pos 1)) (filter (begins is_word_byte text) (range_with_len from (to - from))))
       ∙ sym (ap (flat_map (word_emits key text)) (items_in-range from to (begins is_word_byte text) (length text) order inside))

@@ -8,4 +8,5 @@ module _ {S E : Type 0} (stands : S → List E → Type 0) where
 
   -- it has taken some of them, from the first on
   abbrev pub SentSome : S → S → List E → Type 0
-  SentSome old new all = (ds : List E) → stands old ds → (sent : List E) × (left : List E) × (stands new (ds ++ sent)) × (sent ++ left ≡ all)
+  SentSome old new all =
+      (ds : List E) → stands old ds → (sent : List E) × (left : List E) × (stands new (ds ++ sent)) × (sent ++ left ≡ all)

@@ -1,20 +1,8 @@
-ghost use Rattle.std.specs.Prelude.{◌≡◌, ◌++◌, IfOk, OnOk};
+ghost use Rattle.std.specs.Prelude.{◌≡◌, IfOk};
 ghost use Rattle.mr_items.specs.Texts as texts;
 
-use mr_base::{Answer, Key, Memory, Rows, Text};
+use mr_base::{Key, Memory, Rows, Text, push_row};
 use std::alloc::Global;
-
-/// Appends a row: the key, a space and a number for each number of the answer, and a byte 10.
-fn push_row<K: Key>(text: &mut Text, key: &K, answer: &Answer) -> Result<(), Memory>
-    ensures { OnOk result (text.new ≡ text.old ++ texts.row_text K.printed (key.now, answer.now)) }
-{
-    key.print(text)?;
-    for i in 0..answer.len() {
-        text.push(b" ")?;
-        text.push_number(answer.number(i))?;
-    }
-    text.push(b"\n")
-}
 
 /// The text of the rows: for each row a line of the key, a space and a number for each number of the answer, and a byte 10.
 pub fn rows_text<K: Key>(alloc: Global, rows: &Rows<K>) -> Result<Text, Memory>

@@ -1,4 +1,6 @@
-ghost use Rattle.std.specs.Prelude.{◌≡◌, ◌≢◌, ◌≤◌, ◌<◌, ◌+◌, ◌-◌, ◌++◌, ℕ, ℤ, List, All, length, negsuc, pos, slice_index, slice_range, true, OnOk, OnErr};
+ghost use Rattle.std.specs.Prelude.{◌≡◌, ◌≢◌, ◌≤◌, ◌<◌, ◌+◌, ◌-◌, ◌++◌, ℕ, ℤ, List, All, length, negsuc, pos, slice_index, slice_range};
+ghost use Rattle.std.specs.Prelude.{true, OnOk, OnErr};
+ghost use Rattle.mr_defs.specs.Folded.{limit};
 ghost use Rattle.mr_items.specs.Words as items;
 ghost use Rattle.mr_container.specs.Block.{block_emissions};
 ghost use Rattle.mr_text.specs.Keyed.{word_pairs, word_emissions};
@@ -18,8 +20,8 @@ pub const EDGES: usize = 1088;
 /// How many pairs a block waits for.
 pub const BLOCK: usize = 256;
 
-/// The end of the strip that begins at a place: the last word boundary that is at most a strip's length on. Where a longer word begins there,
-/// its end.
+/// The end of the strip that begins at a place: the last word boundary that is at most a strip's length on. Where a longer word begins
+/// there, its end.
 fn strip_end(text: &[u8], at: usize, end: usize) -> usize
     requires order { at < end }
     requires inside { end ≤ length text.now }
@@ -54,9 +56,9 @@ fn push_words<'a, K: TextKey<'a>>(
     requires order { from < to }
     requires inside { to ≤ length text.now }
     requires long { 1024 < to - from → (k : ℕ) → from ≤ k → k < to → items.is_word_byte (slice_index text.now k) ≡ true }
-    requires value { value ≤ 9223372036854775807 }
-    requires room { length edges.old ≡ 1088 }
-    ensures room { length edges.new ≡ 1088 }
+    requires value { value ≤ limit }
+    requires room { length edges.old ≡ EDGES }
+    ensures room { length edges.new ≡ EDGES }
     ensures ok { OnOk result (block.new.items ≡ block.old.items ++ word_pairs K.of_text (pos value) (slice_range text.now from to)) }
 {
     if to - from > STRIP {
@@ -88,13 +90,18 @@ pub fn emit_words<'a, K: TextKey<'a>, L: Local<Key = K, Value = i64>>(
     requires inside { to ≤ length text.now }
     requires starts { items.is_word_boundary text.now from ≡ true }
     requires ends { items.is_word_boundary text.now to ≡ true }
-    requires value { value ≤ 9223372036854775807 }
-    requires room { length edges.old ≡ 1088 }
-    requires allowed { All (λ p. K.allowed p.0 × (p.1 ≢ negsuc 9223372036854775807)) block.old.items }
-    ensures ok { OnOk result (Sent L.stands out.old out.new (block_emissions block.old.items ++ word_emissions K.of_text (pos value) (slice_range text.now from to)) (block_emissions block.new.items)) }
-    ensures err { OnErr result (SentSome L.stands out.old out.new (block_emissions block.old.items ++ word_emissions K.of_text (pos value) (slice_range text.now from to))) }
-    ensures allowed { OnOk result (All (λ p. K.allowed p.0 × (p.1 ≢ negsuc 9223372036854775807)) block.new.items) }
-    ensures room { length edges.new ≡ 1088 }
+    requires value { value ≤ limit }
+    requires room { length edges.old ≡ EDGES }
+    requires allowed { All (λ p. K.allowed p.0 × (p.1 ≢ negsuc limit)) block.old.items }
+    ensures ok { OnOk result
+        (Sent L.stands out.old out.new
+        (block_emissions block.old.items ++ word_emissions K.of_text (pos value) (slice_range text.now from to))
+        (block_emissions block.new.items)) }
+    ensures err { OnErr result
+        (SentSome L.stands out.old out.new
+        (block_emissions block.old.items ++ word_emissions K.of_text (pos value) (slice_range text.now from to))) }
+    ensures allowed { OnOk result (All (λ p. K.allowed p.0 × (p.1 ≢ negsuc limit)) block.new.items) }
+    ensures room { length edges.new ≡ EDGES }
     ensures origin { L.same_origin out.old out.new }
 {
     let mut at = from;

@@ -23,8 +23,13 @@ fn emit_piece<'a, K: TextKey<'a>, L: Local<Key = K, Value = i64>>(
     out: &mut L,
 ) -> Result<(), Memory>
     requires piece { IsPiece (is_word_boundary text.now) (length text.now) (from, to) }
-    ensures ok { OnOk result ((es : List (Emission K ℤ)) → L.stands out.old es → L.stands out.new (es ++ tasks.task_emissions (word_emits K.of_text text.now) (word_places text.now) (from, to))) }
-    ensures err { OnErr result ((es : List (Emission K ℤ)) → L.stands out.old es → (n : ℕ) × L.stands out.new (es ++ take n (tasks.task_emissions (word_emits K.of_text text.now) (word_places text.now) (from, to)))) }
+    ensures ok { OnOk result
+        ((es : List (Emission K ℤ)) → L.stands out.old es
+        → L.stands out.new (es ++ tasks.task_emissions (word_emits K.of_text text.now) (word_places text.now) (from, to))) }
+    ensures err { OnErr result
+        ((es : List (Emission K ℤ)) → L.stands out.old es
+        → (n : ℕ)
+        × L.stands out.new (es ++ take n (tasks.task_emissions (word_emits K.of_text text.now) (word_places text.now) (from, to)))) }
     ensures origin { L.same_origin out.old out.new }
 {
     let mut edges = vec![in alloc; 0u32; EDGES]?;
@@ -47,8 +52,10 @@ impl<'a> WordCount<'a> {
     pub fn new(input: &'a [u8], pieces: &'a Pieces) -> WordCount<'a>
         requires { ArePieces Boundary.Word input.now pieces.now }
         ensures count { ⟦<WordCount<'a> as Mapper>⟧.task_count result ≡ length pieces.now }
-        ensures tasks { (t : ℕ) → ⟦<WordCount<'a> as Mapper>⟧.task_emissions result t ≡ tasks.task_emissions (word_count_emits input.now) (word_places input.now) (slice_index_or pieces.now t (0, 0)) }
-        ensures whole { flat_map (⟦<WordCount<'a> as Mapper>⟧.task_emissions result) (range_with_len 0 (⟦<WordCount<'a> as Mapper>⟧.task_count result)) ≡ word_count_emissions input.now }
+        ensures tasks { (t : ℕ) → ⟦<WordCount<'a> as Mapper>⟧.task_emissions result t
+            ≡ tasks.task_emissions (word_count_emits input.now) (word_places input.now) (slice_index_or pieces.now t (0, 0)) }
+        ensures whole { flat_map (⟦<WordCount<'a> as Mapper>⟧.task_emissions result)
+            (range_with_len 0 (⟦<WordCount<'a> as Mapper>⟧.task_count result)) ≡ word_count_emissions input.now }
     {
         WordCount { input, pieces }
     }
@@ -61,7 +68,8 @@ impl<'a> Mapper for WordCount<'a> {
 
     ghost task_count = { λ m. length m.pieces.now };
 
-    ghost task_emissions = { λ m t. tasks.task_emissions (word_count_emits m.input.now) (word_places m.input.now) (slice_index_or m.pieces.now t (0, 0)) };
+    ghost task_emissions = { λ m t. tasks.task_emissions (word_count_emits m.input.now) (word_places m.input.now)
+        (slice_index_or m.pieces.now t (0, 0)) };
 
     fn tasks(&self) -> u32 {
         self.pieces.len()

@@ -16,10 +16,12 @@ loop-list-preserved g c =
     let n = length-map lists (λ l. l.now) in
     let at = seen_at (λ l. l.now) lists i list c.loop-list-test.true c.list-item.is in
     cutting_more (rank g.K.Ord.cmp) (λ x. is_lt (g.K.Ord.cmp x.0 c.args.key.now))
-    (lent lists) i c.loop-list.fronts.items c.loop-list.backs.items c.push.new.self.items c.push-in-loop-list.new.self.items c.cut_list.result.0 c.cut_list.result.1 list.now
+    (lent lists) i c.loop-list.fronts.items c.loop-list.backs.items c.push.new.self.items c.push-in-loop-list.new.self.items
+    c.cut_list.result.0 c.cut_list.result.1 list.now
     (omega (arith, c.loop-list-test.true, n)) at (subst (Rises (rank g.K.Ord.cmp)) (sym at)
     (rise_at (rank g.K.Ord.cmp) lists i c.requires))
-    c.cut_list.ensures.all c.cut_list.ensures.lesser c.cut_list.ensures.others c.in_ok-push.ensures.items c.in_ok-push-2.ensures.items c.loop-list.invariant
+    c.cut_list.ensures.all c.cut_list.ensures.lesser c.cut_list.ensures.others c.in_ok-push.ensures.items c.in_ok-push-2.ensures.items
+    c.loop-list.invariant
 
 pub returns-clause-cut : goal.returns-clause-cut
 returns-clause-cut g c =

@@ -13,7 +13,9 @@ returns-clause-lesser g c =
     (λ x y. (ranks_by g.met.K.Ord.total (λ k. k)).chain x.0 y.0 c.args.key.now) c.args.list.now c.requires)
     (λ a r q k. search rules) in
     of_front (λ x. is_lt
-    (g.K.Ord.cmp x.0 c.args.key.now) ≡ true) c.args.list.now c.split_at.result.0.now c.partition_point-at.result c.split_at.ensures.front c.split_at.ensures.front_len point.0
+    (g.K.Ord.cmp x.0 c.args.key.now)
+    ≡ true) c.args.list.now c.split_at.result.0.now c.partition_point-at.result c.split_at.ensures.front c.split_at.ensures.front_len
+    point.0
 
 pub returns-clause-others : goal.returns-clause-others
 returns-clause-others g c =
@@ -23,4 +25,5 @@ returns-clause-others g c =
     (λ x y. (ranks_by g.met.K.Ord.total (λ k. k)).chain x.0 y.0 c.args.key.now) c.args.list.now c.requires)
     (λ a r q k. search rules) in
     of_back (λ x. is_lt
-    (g.K.Ord.cmp x.0 c.args.key.now) ≡ false) c.args.list.now c.split_at.result.1.now c.partition_point-at.result c.split_at.ensures.back c.split_at.ensures.back_len point.1
+    (g.K.Ord.cmp x.0 c.args.key.now)
+    ≡ false) c.args.list.now c.split_at.result.1.now c.partition_point-at.result c.split_at.ensures.back c.split_at.ensures.back_len point.1

@@ -23,7 +23,8 @@ loop-row-preserved g c = record {
   next = tt;
   finite = tt;
   cuts = cuts_on (rank g.K.Ord.cmp) (lists_of c.args.lists.now) (lent c.loop-row.rest.items) (lent c.in_ok-fronts.fronts.items)
-      (lent c.in_ok-fronts.backs.items) c.loop-row.ranges.items c.push.new.self.items c.in_ok-fronts.fronts refl c.in_ok-push.ensures.items c.loop-row.invariant.cuts
+      (lent c.in_ok-fronts.backs.items) c.loop-row.ranges.items c.push.new.self.items c.in_ok-fronts.fronts refl c.in_ok-push.ensures.items
+      c.loop-row.invariant.cuts
       (subst (λ l. IsCutOff (rank g.K.Ord.cmp) (lent l) (lent c.in_ok-fronts.fronts.items)
       (lent c.in_ok-fronts.backs.items)) c.deref-in-loop-row.ensures.value c.in_ok-fronts.ensures.cut);
   rest = c.in_ok-fronts.ensures.backs;
@@ -31,12 +32,14 @@ loop-row-preserved g c = record {
       (All-push
       (λ r. All
       (λ l. Rises
-      (rank g.K.Ord.cmp) l.now) r.items) c.loop-row.ranges.items c.in_ok-fronts.fronts c.loop-row.invariant.rise c.in_ok-fronts.ensures.fronts);
+      (rank g.K.Ord.cmp) l.now) r.items) c.loop-row.ranges.items c.in_ok-fronts.fronts c.loop-row.invariant.rise
+      c.in_ok-fronts.ensures.fronts);
 }
 
 pub returns-clause-cut : goal.returns-clause-cut
 returns-clause-cut g c = cut_all (rank g.K.Ord.cmp) (lists_of c.args.lists.now)
-    (lent c.loop-row.rest.items) c.loop-row.ranges.items c.push-2.new.self.items c.loop-row.rest refl c.in_ok-push-2.ensures.items c.loop-row.invariant.cuts
+    (lent c.loop-row.rest.items) c.loop-row.ranges.items c.push-2.new.self.items c.loop-row.rest refl c.in_ok-push-2.ensures.items
+    c.loop-row.invariant.cuts
 
 pub returns-clause-rise : goal.returns-clause-rise
 returns-clause-rise g c =

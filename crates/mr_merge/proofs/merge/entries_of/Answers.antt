@@ -16,7 +16,8 @@ loop-list-preserved g c =
     let lists = subst (All (λ list. IsStrictlySortedBy g.K.Ord.cmp (map (λ row. row.0) list))) popped i.left in
     record {
       all = taken_over
-          (concatenated c.args.lists.items) c.loop-list.lists.items c.pop.new.self.items c.in-Some.list c.loop-list.entries.items c.push.new.self.items run popped c.into_entries.ensures c.in_ok-push.ensures.items i.all;
+          (concatenated c.args.lists.items) c.loop-list.lists.items c.pop.new.self.items c.in-Some.list c.loop-list.entries.items
+          c.push.new.self.items run popped c.into_entries.ensures c.in_ok-push.ensures.items i.all;
       left = all_front (λ list. IsStrictlySortedBy g.K.Ord.cmp (map (λ row. row.0) list)) c.pop.new.self.items
           (c.in-Some.list ∷ []) lists;
       each = subst (All (λ list. Rises (rank g.K.Ord.cmp) list.items)) (sym c.in_ok-push.ensures.items)

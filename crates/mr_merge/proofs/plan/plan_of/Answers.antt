@@ -14,19 +14,21 @@ loop-number-smaller-in-Continue-branch-4 g c =
 pub loop-number-preserved-in-Continue-branch-4 : goal.loop-number-preserved-in-Continue-branch-4
 loop-number-preserved-in-Continue-branch-4 g c =
     planning_more (ranks_by g.met.K.Ord.total (λ row. row.0))
-    (lent c.args.lists.items) c.loop-number.plan.items c.push.new.self.items c.loop-number.runs.items c.pop_front.new.self.items c.insert.new.self.items (c.in-Some.number, c.in-Some.rows)
-    c.in-Some-split_first.field-0-0.now c.in-Some-split_first.rest c.place_of-place.result c.in-Some.ensures.items c.in-Some-split_first.ensures.cases.0 c.in_ok-push.ensures.items c.in_ok-insert.ensures.items
+    (lent c.args.lists.now) c.loop-number.plan.items c.push.new.self.items c.loop-number.runs.items c.pop_front.new.self.items
+    c.insert.new.self.items (c.in-Some.number, c.in-Some.rows)
+    c.in-Some-split_first.field-0-0.now c.in-Some-split_first.rest c.place_of-place.result c.in-Some.ensures.items
+    c.in-Some-split_first.ensures.cases.0 c.in_ok-push.ensures.items c.in_ok-insert.ensures.items
     c.place_of-place.ensures.inside c.place_of-place.ensures.behind c.place_of-place.ensures.before c.loop-number.invariant
 
 pub loop-number-preserved : goal.loop-number-preserved
 loop-number-preserved g c =
     let none : c.in-Some.rows.now ≡ [] = drop_all 0 c.in-Some.rows.now (omega (arith, c.in_default-split_first.ensures.cases)) in
     planning_less (ranks_by g.met.K.Ord.total (λ row. row.0))
-    (lent c.args.lists.items) c.loop-number.plan.items c.loop-number.runs.items c.pop_front.new.self.items
+    (lent c.args.lists.now) c.loop-number.plan.items c.loop-number.runs.items c.pop_front.new.self.items
     (c.in-Some.number, c.in-Some.rows) c.in-Some.ensures.items none c.loop-number.invariant
 
 pub returns : goal.returns
 returns g c =
     let none : c.loop-number.runs.items ≡ [] = search rules in
     planning_end (ranks_by g.met.K.Ord.total (λ row. row.0))
-    (lent c.args.lists.items) c.loop-number.plan.items c.loop-number.runs.items none c.loop-number.invariant
+    (lent c.args.lists.now) c.loop-number.plan.items c.loop-number.runs.items none c.loop-number.invariant

@@ -25,7 +25,8 @@ loop-number-preserved g c =
     (lent lists) c.loop-number.number c.loop-number.runs.items c.insert.new.self.items list c.place_of-place.result
     (omega (arith, c.loop-number-test.true, n)) at
     (subst (Rises (rank g.K.Ord.cmp)) (sym at) (rise_at (rank g.K.Ord.cmp) lists c.loop-number.number c.requires))
-    c.in_ok-insert.ensures.items c.place_of-place.ensures.inside c.place_of-place.ensures.behind c.place_of-place.ensures.before c.loop-number.invariant
+    c.in_ok-insert.ensures.items c.place_of-place.ensures.inside c.place_of-place.ensures.behind c.place_of-place.ensures.before
+    c.loop-number.invariant
 
 pub returns : goal.returns
 returns g c =

@@ -20,6 +20,8 @@ loop-pass-preserved c =
       (All-pop (IsPassOf array.table.shared.table_id array.size) _ c.pop.new.self.items (Some c.in-Some.pass) popped i.1).0,
       (All-pop IsUnused _ c.pop.new.self.items (Some c.in-Some.pass) popped i.2).0,
       All-same (λ s. s.array.now ≡ array) _ _ pushed (All-push (λ s. s.array.now ≡ array) _ c.new.result i.3 c.new.ensures.origin.0),
-      All-same (λ s. SharesFor nat_cmp (λ k. nat_lt k s.array.now.size) (won s.pass) (refused s.pass) s.cells (noted_of s.faults) []) _ _ pushed
-          (All-push (λ s. SharesFor nat_cmp (λ k. nat_lt k s.array.now.size) (won s.pass) (refused s.pass) s.cells (noted_of s.faults) []) _ c.new.result i.4 c.new.ensures.empty),
+      All-same
+          (λ s. SharesFor nat_cmp (λ k. nat_lt k s.array.now.size) (won s.pass) (refused s.pass) s.cells (noted_of s.faults) []) _ _ pushed
+          (All-push (λ s. SharesFor nat_cmp (λ k. nat_lt k s.array.now.size) (won s.pass) (refused s.pass) s.cells (noted_of s.faults) [])
+          _ c.new.result i.4 c.new.ensures.empty),
     )

@@ -12,7 +12,8 @@ loop-pass-preserved g c =
     let room = inv.1 in
     let spare = inv.2 in
     let more = p.1 in (
-      gathers _ _ _ _ _ _ _ _ _ _ _ inv.0 p.0 c.in-Some-pop.ensures.0 c.push.ensures.items (c.len-in-Some.ensures, refl, refl, c.in_ok-with_room.ensures.0, refl),
+      gathers _ _ _ _ _ _ _ _ _ _ _ inv.0 p.0 c.in-Some-pop.ensures.0 c.push.ensures.items
+          (c.len-in-Some.ensures, refl, refl, c.in_ok-with_room.ensures.0, refl),
       omega (arith, n, s, room),
       omega (arith, k, spare, more),
     )

@@ -19,7 +19,8 @@ loop-alloc-preserved g c =
       c.in-Some.ensures.same.0,
       c.in-Some.ensures.same.1 ∙ inv.1,
       rw (c.push.ensures.items, c.room.ensures.items) (same_tasks old _ _ c.in-Some.task inv.2 some.1),
-      rw (c.push.ensures.items, c.room.ensures.items) (subst (g.L.Local.stands c.map.new.out) (flat_map_more emits [] old c.in-Some.task) (c.in-Ok.ensures.ok _ inv.3)),
+      rw (c.push.ensures.items, c.room.ensures.items)
+          (subst (g.L.Local.stands c.map.new.out) (flat_map_more emits [] old c.in-Some.task) (c.in-Ok.ensures.ok _ inv.3)),
       inv.4,
       g.met.L.Local.origin_trans _ _ _ inv.5 c.in-Ok.ensures.origin,
     )

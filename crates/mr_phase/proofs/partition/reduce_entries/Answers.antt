@@ -1,35 +1,49 @@
-use Rattle.std.proofs.Common.{sym, ap, ◌∙◌, ◌≡◌, ◌++◌, false, arith, length}
-use Rattle.std.specs.Ordering.{eq_by_cmp}
-use Rattle.std.proofs.lemmas.Option.{MatchOption-at_some}
+use Rattle.std.proofs.Common.{◌∙◌, ap, subst, sym}
+use Rattle.std.proofs.lemmas.Option.{MatchOption-at_none, MatchOption-at_some}
 use Rattle.mr_defs.proofs.Lesser.{lesser_commutative}
-use Rattle.mr_phase.specs.Folded.{near_of, seen_of}
-use Rattle.mr_phase.specs.Reduced.{entry_row, over_key}
-use Rattle.mr_phase.proofs.Folding.{put_row, put_key}
+use Rattle.mr_phase.proofs.Folding.{IsFolding, folding_last, folding_other, folding_same}
 use Rattle.mr_phase.proofs.partition.reduce_entries.Goals as goal
 
-pub loop-cell-smaller-in-Continue-branch-7 : goal.loop-cell-smaller-in-Continue-branch-7
-loop-cell-smaller-in-Continue-branch-7 g c = let n = ap length (MatchOption-at_some _ _ _ c.in-Some-2.is c.in_ok-lead.ensures.next).0 in omega (arith, n)
-
-pub loop-cell-smaller : goal.loop-cell-smaller
-loop-cell-smaller g c = let n = ap length (MatchOption-at_some _ _ _ c.in-Some-2.is c.in_ok-lead.ensures.next).0 in omega (arith, n)
+pub loop-cell-preserved-in-Continue-branch-7 : goal.loop-cell-preserved-in-Continue-branch-7
+loop-cell-preserved-in-Continue-branch-7 g c =
+    let fold = g.C.Combiner in
+    let so_far = c.loop-cell.invariant in
+    let taken = c.in_ok-lead.ensures in
+    let next = c.in-Some-2 in
+    record {
+      ahead = taken.ahead;
+      all = ap (λ v. v.items) taken.all ∙ so_far.all;
+      part = so_far.part;
+      folding = subst (λ cell. IsFolding g.K.Ord.cmp fold.merged fold.over g.R.Reducer.answer c.take-in-loop-cell.new.self
+          c.loop-cell.key.now cell c.loop-cell.made) (sym c.in_ok-merge.ensures.ok)
+          (folding_same g.K.Ord.cmp fold.merged fold.over g.R.Reducer.answer c.loop-cell.ahead c.take-in-loop-cell.new.self
+          c.loop-cell.key.now c.loop-cell.cell c.loop-cell.made (next.next, next.other)
+          (λ all t. MatchOption-at_some _ _ _ next.is (taken.taken all t)) so_far.folding (sym c.are_equal.ensures ∙ c.if-are_equal.true));
+    }
 
 pub loop-cell-preserved : goal.loop-cell-preserved
 loop-cell-preserved g c =
-    let key = g.K.Ord.cmp in
-    let merged = g.C.Combiner.merged in
-    let e = c.in-Some-2.next.now in
-    let other : eq_by_cmp key c.loop-cell.key.now e ≡ false = sym c.are_equal.ensures ∙ c.if-are_equal.false in
-    let rest = near_of c.next_entry-in-loop-cell.new.near.items ++ seen_of c.next_entry-in-loop-cell.new.far.items in
-    let is = (MatchOption-at_some _ _ _ c.in-Some-2.is c.in_ok-lead.ensures.next).0 in
-    let laws = lesser_commutative g.met.K.Ord.total g.met.K.Key.only_equal_tie in
-    let row = entry_row g.C.Combiner.over g.R.Reducer.answer in
-    let over = over_key g.C.Combiner.over in
-    let here = c.loop-cell.key.now in
-    let all = near_of c.loop-cell.near.items ++ seen_of c.loop-cell.far.items in
+    let fold = g.C.Combiner in
     let so_far = c.loop-cell.invariant in
+    let taken = c.in_ok-lead.ensures in
+    let next = c.in-Some-2 in
     record {
-      leads = c.in_ok-lead.ensures.leads;
+      ahead = taken.ahead;
+      all = ap (λ v. v.items) taken.all ∙ so_far.all;
       part = c.in_ok-put.ensures.part ∙ so_far.part;
-      rows = rw c.in_ok-cell-2.ensures.ok (put_row key merged here c.loop-cell.cell (e, c.in-Some-2.other.now) all rest is other row c.loop-cell.made.rows c.put.new.self.rows _ c.in_ok-put.ensures.rows so_far.rows);
-      over = rw c.in_ok-cell-2.ensures.ok (put_key key merged here c.loop-cell.cell (e, c.in-Some-2.other.now) all rest is other laws over c.loop-cell.made.over c.put.new.self.over _ c.in_ok-put.ensures.over so_far.over);
+      folding = subst (λ cell. IsFolding g.K.Ord.cmp fold.merged fold.over g.R.Reducer.answer c.take-in-loop-cell.new.self next.next.now
+          cell c.put.new.self) (sym c.in_ok-cell-2.ensures.ok)
+          (folding_other g.K.Ord.cmp fold.merged fold.over g.R.Reducer.answer c.loop-cell.ahead c.take-in-loop-cell.new.self
+          c.loop-cell.key.now c.loop-cell.cell c.loop-cell.made (next.next, next.other)
+          (λ all t. MatchOption-at_some _ _ _ next.is (taken.taken all t)) so_far.folding
+          (lesser_commutative g.met.K.Ord.total g.met.K.Key.only_equal_tie) c.put.new.self
+          (sym c.are_equal.ensures ∙ c.if-are_equal.false) c.in_ok-put.ensures.rows c.in_ok-put.ensures.over);
     }
+
+pub returns-clause-folds : goal.returns-clause-folds
+returns-clause-folds g c =
+    let fold = g.C.Combiner in
+    folding_last g.K.Ord.cmp fold.merged fold.over g.R.Reducer.answer c.loop-cell.ahead c.loop-cell.key.now c.loop-cell.cell
+    c.loop-cell.made c.put-2.new.self c.args.entries.items c.loop-cell.invariant.all
+    (λ all t. MatchOption-at_none _ _ c.in_default-2.is (c.in_ok-lead.ensures.taken all t)) c.in_ok-put-2.ensures.rows
+    c.in_ok-put-2.ensures.over c.loop-cell.invariant.folding

@@ -3,4 +3,5 @@ use Rattle.std.specs.Prelude.{All}
 use Rattle.mr_phase.proofs.reduce.empty_lists.Given as goal
 
 abbrev pub invariant-loop : goal.invariant-loop
-invariant-loop g l = (length l.lists.items ≡ l.counter) × All (λ list. list.items ≡ []) l.lists.items × (l.count ≤ l.lists.spare + l.counter)
+invariant-loop g l =
+    (length l.lists.items ≡ l.counter) × All (λ list. list.items ≡ []) l.lists.items × (l.count ≤ l.lists.spare + l.counter)

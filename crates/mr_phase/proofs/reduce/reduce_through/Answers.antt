@@ -19,7 +19,8 @@ loop-alloc-preserved g c =
       c.in-Some.ensures.same.0,
       c.in-Some.ensures.same.1 ∙ inv.1,
       rw (c.push.ensures.items, c.room.ensures.items) (same_tasks old _ _ c.in-Some.part inv.2 c.in-Some.ensures.some.1),
-      done_more g.L.Key.Ord.cmp (λ k. joined_by fold.merged (λ h. g.L.Parted.cell h.local k) c.args.mapped.now) (g.L.Parted.part_of c.args.parts) fold.over g.R.Reducer.answer
+      done_more g.L.Key.Ord.cmp (λ k. joined_by fold.merged (λ h. g.L.Parted.cell h.local k) c.args.mapped.now)
+          (g.L.Parted.part_of c.args.parts) fold.over g.R.Reducer.answer
           c.loop-alloc.work.local.items c.push-in-loop-alloc.new.self.items c.in-Ok.partition old c.push.new.self.items c.in-Some.part
           (c.push-in-loop-alloc.ensures.items ∙ ap (λ l. l ++ c.in-Ok.partition ∷ []) c.room-in-loop-alloc.ensures.items)
           (c.push.ensures.items ∙ ap (λ l. l ++ c.in-Some.part ∷ []) c.room.ensures.items)

@@ -9,7 +9,8 @@ invariant-loop-alloc g l =
     g.Q.TaskQueues.is_of l.queues l.work.pass
     × (g.Q.TaskQueues.number l.work.pass ≡ g.Q.TaskQueues.number l.fn.work.pass)
     × IsPermutation l.work.tasks.items (g.Q.TaskQueues.given l.work.pass)
-    × HaveReduced g.L.Key.Ord.cmp (λ k. joined_by g.L.Fold.Combiner.merged (λ h. g.L.Parted.cell h.local k) l.mapped) (g.L.Parted.part_of l.parts) g.L.Fold.Combiner.over g.R.Reducer.answer l.work.local (flat_map itself l.work.tasks.items)
+    × HaveReduced g.L.Key.Ord.cmp (λ k. joined_by g.L.Fold.Combiner.merged (λ h. g.L.Parted.cell h.local k) l.mapped)
+    (g.L.Parted.part_of l.parts) g.L.Fold.Combiner.over g.R.Reducer.answer l.work.local (flat_map itself l.work.tasks.items)
     × (l.work.starved ≡ false)
 
 abbrev pub decreases-loop-alloc : goal.decreases-loop-alloc

@@ -12,7 +12,8 @@ loop-partition-preserved g c =
     let p = c.in-Some.partition in
     let i = c.loop-partition.invariant in
     record {
-      lists = c.push.ensures.items ∙ ap (λ l. l ++ p.rows ∷ []) (c.in_ok-room.ensures.items ∙ i.lists) ∙ sym (map-append (λ p. p.rows) c.loop-partition.yielded (p ∷ []));
+      lists = c.push.ensures.items ∙ ap (λ l. l ++ p.rows ∷ []) (c.in_ok-room.ensures.items ∙ i.lists)
+          ∙ sym (map-append (λ p. p.rows) c.loop-partition.yielded (p ∷ []));
       malformed = i.malformed;
       outside = i.outside;
       twice = i.twice;

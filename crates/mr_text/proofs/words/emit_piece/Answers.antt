@@ -20,13 +20,19 @@ module _ (g : Over) (c : After-emit_words g) where
   abbrev all : List (Emission g.row.K.Denot ℤ)
   all = task_emissions (word_emits g.K.TextKey.of_text text) (word_places text) (c.args.from, c.args.to)
 
-  are : block_emissions c.in_ok-block.block.items ++ word_emissions g.K.TextKey.of_text (pos 1) (slice_range text c.args.from c.args.to) ≡ all
+  are : block_emissions c.in_ok-block.block.items ++ word_emissions g.K.TextKey.of_text (pos 1) (slice_range text c.args.from c.args.to)
+      ≡ all
   are =
-      ap (λ items. block_emissions items ++ word_emissions g.K.TextKey.of_text (pos 1) (slice_range text c.args.from c.args.to)) c.in_ok-block.ensures.items
-      ∙ piece_words g.K.TextKey.of_text text c.args.from c.args.to (omega (arith, c.requires.piece.some)) c.requires.piece.inside c.requires.piece.starts c.requires.piece.ends
+      ap (λ items. block_emissions items ++ word_emissions g.K.TextKey.of_text (pos 1) (slice_range text c.args.from c.args.to))
+      c.in_ok-block.ensures.items
+      ∙ piece_words g.K.TextKey.of_text text c.args.from c.args.to
+      (omega (arith, c.requires.piece.some)) c.requires.piece.inside c.requires.piece.starts c.requires.piece.ends
 
   -- what waits behind the last word
-  sent : (left : List (Emission g.row.K.Denot ℤ)) → Sent g.L.Local.stands c.args.out.now c.emit_words.new.out (block_emissions c.in_ok-block.block.items ++ word_emissions g.K.TextKey.of_text (pos 1) (slice_range text c.args.from c.args.to)) left
+  sent : (left : List (Emission g.row.K.Denot ℤ))
+      → Sent g.L.Local.stands c.args.out.now c.emit_words.new.out
+      (block_emissions c.in_ok-block.block.items ++ word_emissions g.K.TextKey.of_text (pos 1) (slice_range text c.args.from c.args.to))
+      left
       → Sent g.L.Local.stands c.args.out.now c.emit_words.new.out all left
   sent left = subst (λ es. Sent g.L.Local.stands c.args.out.now c.emit_words.new.out es left) are
 
@@ -47,13 +53,16 @@ pub returns-in_err-emit_words-clause-err : goal.returns-in_err-emit_words-clause
 returns-in_err-emit_words-clause-err g c =
     let there = (goal.at.returns-in_err-emit_words-clause-err g c).After-emit_words in
     let e = err_from_is_err_and c.from_residual-in_err-emit_words.result c.from_residual-in_err-emit_words.ensures.1 in
-    rw e.1 (some_stands g.L.Local.stands c.args.out.now c.emit_words.new.out (all g there) (subst (SentSome g.L.Local.stands c.args.out.now c.emit_words.new.out) (are g there) c.in_err-emit_words.ensures.err))
+    rw e.1 (some_stands g.L.Local.stands c.args.out.now c.emit_words.new.out (all g there)
+    (subst (SentSome g.L.Local.stands c.args.out.now c.emit_words.new.out) (are g there) c.in_err-emit_words.ensures.err))
 
 pub returns-in_err-emit_block-clause-err : goal.returns-in_err-emit_block-clause-err
 returns-in_err-emit_block-clause-err g c =
     let there = (goal.at.returns-in_err-emit_block-clause-err g c).After-emit_words in
     let e = err_from_is_err_and c.from_residual-in_err-emit_block.result c.from_residual-in_err-emit_block.ensures.1 in
-    rw e.1 (some_stands g.L.Local.stands c.args.out.now c.emit_block.new.self _ (sent_some g.L.Local.stands c.args.out.now c.emit_words.new.out _ _ (sent g there _ c.in_ok-emit_words.ensures.ok) c.emit_block.new.self c.in_err-emit_block.ensures.err))
+    rw e.1 (some_stands g.L.Local.stands c.args.out.now c.emit_block.new.self
+    _ (sent_some g.L.Local.stands c.args.out.now c.emit_words.new.out _ _ (sent g there _ c.in_ok-emit_words.ensures.ok)
+    c.emit_block.new.self c.in_err-emit_block.ensures.err))
 
 pub returns-in_err-emit_block-clause-origin : goal.returns-in_err-emit_block-clause-origin
 returns-in_err-emit_block-clause-origin g c = g.met.L.Local.origin_trans _ _ _ c.emit_words.ensures.origin c.emit_block.ensures.origin
@@ -61,7 +70,9 @@ returns-in_err-emit_block-clause-origin g c = g.met.L.Local.origin_trans _ _ _ c
 pub returns-clause-ok : goal.returns-clause-ok
 returns-clause-ok g c =
     let there = (goal.at.returns-clause-ok g c).After-emit_words in
-    all_stands g.L.Local.stands c.args.out.now c.emit_block.new.self _ (sent_all g.L.Local.stands c.args.out.now c.emit_words.new.out _ _ (sent g there _ c.in_ok-emit_words.ensures.ok) c.emit_block.new.self c.in_ok-emit_block.ensures.ok)
+    all_stands g.L.Local.stands c.args.out.now c.emit_block.new.self
+    _ (sent_all g.L.Local.stands c.args.out.now c.emit_words.new.out _ _ (sent g there _ c.in_ok-emit_words.ensures.ok)
+    c.emit_block.new.self c.in_ok-emit_block.ensures.ok)
 
 pub returns-clause-origin : goal.returns-clause-origin
 returns-clause-origin g c = g.met.L.Local.origin_trans _ _ _ c.emit_words.ensures.origin c.emit_block.ensures.origin

@@ -20,11 +20,21 @@ returns-clause-same c =
     let a = c.requires.3 in let b = c.requires.4 in let d = c.if-pass.false in
     let fits : p.next + 1 ≤ p.end = omega (arith, b, d) in
     let up : p.start ≤ p.next + 1 = omega (arith, a) in (
-      (c.requires.0, c.requires.1, c.requires.2, up, fits, c.requires.5, (λ yes. absurd (d (c.requires.6 yes))), apart_is c.args.self.now.tasks p.start (p.next + 1) p.end up fits c.requires.5),
+      (
+        c.requires.0,
+        c.requires.1,
+        c.requires.2,
+        up,
+        fits,
+        c.requires.5,
+        (λ yes. absurd (d (c.requires.6 yes))),
+        apart_is c.args.self.now.tasks p.start (p.next + 1) p.end up fits c.requires.5,
+      ),
       refl,
     )
 
 pub returns-clause-order : goal.returns-clause-order
 returns-clause-order c =
     let p = c.args.pass.now in
-    rw (sym c.requires.1, sym c.requires.2) (let a = c.requires.4 in let d = c.if-pass.false in next_is p.start p.next p.end c.requires.3 c.requires.4 (omega (arith, a, d)))
+    rw (sym c.requires.1, sym c.requires.2)
+    (let a = c.requires.4 in let d = c.if-pass.false in next_is p.start p.next p.end c.requires.3 c.requires.4 (omega (arith, a, d)))

@@ -12,10 +12,14 @@ use Rattle.mr_text.proofs.Numbered.{flat_map-numbered}
 use Rattle.mr_text.proofs.words.WordCount.new.Goals as goal
 
 pub invariant_of-result : goal.invariant_of-result
-invariant_of-result c = record { are = subst (All (IsPiece (is_word_boundary c.args.input.now) (length c.args.input.now))) (sym c.requires.1) (each_of Boundary.Word c.args.input.now c.requires.0) }
+invariant_of-result c = record {
+  are = subst (All (IsPiece (is_word_boundary c.args.input.now) (length c.args.input.now)))
+      (sym c.requires.1) (each_of Boundary.Word c.args.input.now c.requires.0);
+}
 
 pub returns-clause-whole : goal.returns-clause-whole
 returns-clause-whole c =
     let text = c.args.input.now in
     let emits = task_emissions (word_count_emits text) (word_places text) in
-    flat_map-numbered emits c.args.pieces.now (0, 0) ∙ ap (flat_map emits) c.requires.1 ∙ word_tasks (word_count_emits text) text c.requires.0
+    flat_map-numbered emits c.args.pieces.now (0, 0) ∙ ap (flat_map emits) c.requires.1
+    ∙ word_tasks (word_count_emits text) text c.requires.0
