@@ -5,6 +5,7 @@ use Rattle.std.specs.List.{All}
 use Rattle.std.proofs.lemmas.List.Elements.{All-from_get_or, All-take, All-drop}
 use Rattle.std.proofs.lemmas.Option.{get_or_from_slice_get}
 use Rattle.std.proofs.lemmas.Simd.{length-chunk}
+use Rattle.mr_defs.specs.Limits.{greatest_element}
 use Rattle.mr_grid.specs.Dense.{rows_of, IsDense}
 use Rattle.mr_grid.proofs.Chunks.{length-rows_of, row_of, row_within, columns_is}
 use Rattle.mr_items.specs.Grid.{columns_of}
@@ -25,10 +26,10 @@ module _ (numbers : List ℤ) (columns rows : ℕ) (dense : IsDense numbers colu
         ap length (row_at r below)
         ∙ length-chunk (r * columns) columns numbers (row_within numbers columns rows r
         (omega (arith, below, length-rows_of numbers columns rows)) dense.size) ∙ sym (columns_is numbers columns rows dense));
-    small = All-from_get_or (All (λ z. nat_abs z ≤ 2147483647)) grid [] (λ r below.
-        subst (All (λ z. nat_abs z ≤ 2147483647)) (sym (row_at r below))
-        (All-take (λ z. nat_abs z ≤ 2147483647) columns _
-        (All-drop (λ z. nat_abs z ≤ 2147483647) (r * columns) numbers dense.bounded)));
+    small = All-from_get_or (All (λ z. nat_abs z ≤ greatest_element)) grid [] (λ r below.
+        subst (All (λ z. nat_abs z ≤ greatest_element)) (sym (row_at r below))
+        (All-take (λ z. nat_abs z ≤ greatest_element) columns _
+        (All-drop (λ z. nat_abs z ≤ greatest_element) (r * columns) numbers dense.bounded)));
   }
 
   -- without columns there is no row

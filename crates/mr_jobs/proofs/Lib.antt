@@ -7,6 +7,7 @@ mod GeneratedRows
 mod Pictured
 mod Passed
 mod Reports
+mod Outputs
 mod Printing
 mod SpanShares
 mod Grids

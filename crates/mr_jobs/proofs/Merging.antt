@@ -1,5 +1,6 @@
 -- Rows that were spread over lists are, merged again, the rows of the emissions.
-use Rattle.std.proofs.Common.{◌≡◌, Bool, true, false, cond, ◌&&◌, T, ℕ, List, [], ◌∷◌, map, filter, filter_map, Option, Some, None, option_map, Ok, Err, length, append-nil, refl, sym, ap, subst, ◌∙◌, arith}
+use Rattle.std.proofs.Common.{◌≡◌, Bool, true, false, cond, ◌&&◌, T, ℕ, List, [], ◌∷◌, map, filter, filter_map, Option, Some, None}
+use Rattle.std.proofs.Common.{option_map, Ok, Err, length, append-nil, refl, sym, ap, subst, ◌∙◌, arith}
 use Rattle.std.specs.Prelude.{All, IfOk}
 use Rattle.std.specs.declared.result.Result.{Result}
 use Rattle.std.specs.List.{AllByRecursion, IsDistinct, cons_option}
@@ -11,7 +12,7 @@ use Rattle.std.specs.Ordering.{eq_by_cmp, is_lt}
 use Rattle.std.specs.Cmp.{IsTotalOrder, eq_by_cmp_equiv}
 use Rattle.std.specs.FinMap.{IsAntisymmetric, find, is_sorted}
 use Rattle.std.specs.FinMap.Entries.{below_all, same_entries}
-use Rattle.std.proofs.lemmas.List.Elements.{All-head}
+use Rattle.std.proofs.lemmas.List.Elements.{All-cons, All-head, All-nil}
 use Rattle.std.proofs.lemmas.List.Sorted.{Contains-permutation, IsPermutation-sym, IsPermutation-trans}
 use Rattle.std.proofs.lemmas.Map.Keys.{IsDistinct-from_sorted}
 use Rattle.std.proofs.lemmas.Map.Views.{Contains-from_lookup, lookup-from_Contains, tells_apart}
@@ -22,6 +23,7 @@ use Rattle.mr_defs.specs.Faulty.{Noted, fault_of, first_of}
 use Rattle.mr_defs.specs.Rounds.{round_of}
 use Rattle.mr_defs.specs.Rows.{rows_of}
 use Rattle.mr_defs.specs.declared.Fault.{Fault}
+use Rattle.mr_merge.specs.Merged.{AreMerged, CanMerge}
 use Rattle.mr_phase.specs.Spread.{IsSpreadOf}
 use Rattle.mr_phase.proofs.Final.{first_fault}
 use Rattle.mr_defs.proofs.Ascending.{ascending_sorted, marked}
@@ -118,7 +120,7 @@ module _ {K : Type 0} (R : K → K → Ordering) (p : K → Bool) where
 
 module _ {K V : Type 0} {R : K → K → Ordering} (o : IsTotalOrder R) (one : IsAntisymmetric R) (inside : K → Bool)
     (folded : List V → Option Answer) (es : List (Emission K V)) where
-  rows_of_ascend : IsStrictlySortedBy R (map (λ r. r.0) (rows_of R inside folded es))
+  pub rows_of_ascend : IsStrictlySortedBy R (map (λ r. r.0) (rows_of R inside folded es))
   rows_of_ascend = rows_ascend R (λ k. folded (at R es k)) (keys_inside R inside es)
       (kept_ascend R inside (keys R es) (ascending_sorted R o (filter_map pair_key es)))
 
@@ -163,3 +165,16 @@ only_differ R lists (Err e) one all = tt
 pub weaker : {B E : Type 0} (result : Result B E) (P Q : B → Type 0) → ((b : B) → P b → Q b) → IfOk result P → IfOk result Q
 weaker (Ok b) P Q step p = step b p
 weaker (Err e) P Q step p = tt
+
+-- one list that ascends can be merged, and is merged as it stands
+pub one_can : {K A : Type 0} (R : K → K → Ordering) (list : List (K × A)) → IsStrictlySortedBy R (map (λ row. row.0) list)
+    → CanMerge R (list ∷ [])
+one_can R list ascends =
+    let all = All-cons (λ l. IsStrictlySortedBy R (map (λ row. row.0) l)) list [] ascends
+    (All-nil (λ l. IsStrictlySortedBy R (map (λ row. row.0) l))) in
+    record { ascend = all; differ = one_list R (list ∷ []) refl all }
+
+pub one_is : {K A : Type 0} {R : K → K → Ordering} (o : IsTotalOrder R) (one : IsAntisymmetric R) (list rows : List (K × A))
+    → IsStrictlySortedBy R (map (λ row. row.0) list) → AreMerged R (list ∷ []) rows → rows ≡ list
+one_is o one list rows ascends merged =
+    sym (one_order o one list rows (subst (λ l. IsPermutation l rows) (append-nil list) merged.all) ascends merged.ascend)

@@ -32,10 +32,6 @@ use Rattle.mr_capacity.specs.Folds.{folded}
 use Rattle.mr_jobfile.specs.Values.{SeenJob}
 use Rattle.mr_jobs.specs.Ending.{Ended, Ending, ended_by, passed, refused}
 
--- the most bytes of an input
-abbrev pub input_limit : ℕ
-input_limit = 134217728
-
 -- how many inputs a job has
 abbrev pub inputs_wanted : JobKind → ℕ
 inputs_wanted job.MatrixProduct = 2

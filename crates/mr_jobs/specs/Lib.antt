@@ -1,8 +1,10 @@
 pub mod Ending
 pub mod Meets
 pub mod Shares
+pub mod RoundOf
 pub mod JobEnding
 pub mod LawfulReport
+pub mod Outputs
 pub mod Generated
 pub mod Outcomes
 pub mod Passes

@@ -3,13 +3,14 @@ ghost use Rattle.std.specs.List.{range_with_len};
 ghost use Rattle.std.specs.Ordering.{nat_cmp};
 ghost use Rattle.mr_capacity.specs.Folds.{folded};
 ghost use Rattle.mr_capacity.specs.declared.kinds.JobKind.TheVariants as kind;
+ghost use Rattle.mr_defs.specs.Limits.{input_limit};
 ghost use Rattle.mr_defs.specs.Tasks.{spans_of};
 ghost use Rattle.mr_grid.specs.Pixels.{bitmap_of};
 ghost use Rattle.mr_items.specs.Bitmap.{pixel_rows};
 ghost use Rattle.mr_items.specs.Histogram.{histogram_emits, histogram_emissions};
 ghost use Rattle.mr_items.specs.Texts.{rows_text};
 ghost use Rattle.mr_jobfile.specs.Seen.{seen};
-ghost use Rattle.mr_jobs.specs.JobEnding.{input_limit, inside_of, is_shared, job_ending, number_keys};
+ghost use Rattle.mr_jobs.specs.JobEnding.{inside_of, is_shared, job_ending, number_keys};
 ghost use Rattle.mr_jobs.specs.LawfulReport.{IsLawfulReport};
 ghost use Rattle.mr_jobs.specs.Meets.{IsOfInputs, MeetsSeen};
 ghost use Rattle.mr_jobs.specs.Shares.{AreOnlyRound};
@@ -51,7 +52,7 @@ where
 {
     let mapper = Histogram::new(input, bitmap, spans(bitmap.rows as u64, job.chunk));
     rows_output(
-        workers.alloc,
+        workers,
         number_round::<T, G, Histogram, C, R>(workers, job, &mapper),
     )
 }

@@ -1,15 +1,18 @@
 ghost use Rattle.std.specs.Prelude.{◌≡◌, ◌≤◌, ◌<◌, ◌+◌, [], ℕ, All, IfOk, Ok, codes, length, slice_index_or};
+ghost use Rattle.mr_defs.specs.Limits.{input_limit};
 ghost use Rattle.mr_base.specs.declared.status.Status.TheVariants as status;
 ghost use Rattle.mr_items.specs.FaultLines.{bitmap_line, bitmap_name, grid_line, input_line};
 ghost use Rattle.mr_items.specs.Grid.{columns_of, grid_of};
-ghost use Rattle.mr_jobs.specs.JobEnding.{gridded, input_limit};
+ghost use Rattle.mr_jobs.specs.JobEnding.{gridded};
 ghost use Rattle.mr_jobs.specs.Meets.{IsOfInputs, MeetsSeen};
 
 use crate::refusal::{Refusal, input_words, offset_words};
+use crate::workers::Workers;
 use mr_base::{Memory, Status, Stop, Text};
-use mr_grid::{BitmapFault, Grid, GridFault, read_grid};
+use mr_grid::{BitmapFault, Grid, GridFault, read_grid_by};
 use mr_outside::Taken;
 use std::alloc::Global;
+use std::thread::Threads;
 
 /// The refusal of the input with this number, from 1.
 pub(crate) fn refused_input(alloc: Global, number: usize, text: &[u8]) -> Result<Refusal, Memory>
@@ -72,9 +75,9 @@ fn refused_grid(alloc: Global, number: usize, fault: GridFault) -> Result<Refusa
     refused_input(alloc, number, words.as_bytes())
 }
 
-/// The grid of the input at a place, or the refusal of its fault.
-pub(crate) fn grid_input(
-    alloc: Global,
+/// The grid of the input at a place, or the refusal of its fault. All workers read it.
+pub(crate) fn grid_input<T: Threads + Sync, G>(
+    workers: &Workers<T, G>,
     inputs: &[Taken],
     place: usize,
 ) -> Result<Grid, Stop<Refusal>>
@@ -86,9 +89,14 @@ pub(crate) fn grid_input(
     ensures rows { IfOk result (λ g. length g ≤ input_limit) }
     ensures of_inputs { IsOfInputs result }
 {
-    match read_grid(alloc, inputs[place].as_bytes()) {
+    let bytes = inputs[place].as_bytes();
+    match read_grid_by(workers.rt, workers.alloc, workers.count(), bytes) {
         Ok(grid) => Ok(grid),
-        Err(Stop::Refused(fault)) => Err(Stop::Refused(refused_grid(alloc, place + 1, fault)?)),
+        Err(Stop::Refused(fault)) => Err(Stop::Refused(refused_grid(
+            workers.alloc,
+            place + 1,
+            fault,
+        )?)),
         Err(Stop::Memory) => Err(Stop::Memory),
     }
 }

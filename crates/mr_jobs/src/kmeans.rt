@@ -1,18 +1,17 @@
 ghost use Rattle.std.specs.Prelude.{◌≡◌, ◌≤◌, [], All, IfOk, false, length};
-ghost use Rattle.std.specs.Ordering.{nat_cmp};
 ghost use Rattle.mr_capacity.specs.declared.kinds.JobKind.TheVariants as kind;
 ghost use Rattle.mr_defs.specs.Folded.{vecsum_folded};
-ghost use Rattle.mr_defs.specs.Rounds.{round_of};
+ghost use Rattle.mr_defs.specs.Limits.{input_limit};
 ghost use Rattle.mr_items.specs.Grid.{columns_of};
 ghost use Rattle.mr_items.specs.KMeans.{kmeans_emits, kmeans_emissions, kmeans_next};
 ghost use Rattle.mr_jobfile.specs.Seen.{seen};
-ghost use Rattle.mr_jobs.specs.JobEnding.{input_limit, inside_of, is_shared, job_ending, kmeans_ending};
+ghost use Rattle.mr_jobs.specs.JobEnding.{inside_of, is_shared, job_ending, kmeans_ending};
 ghost use Rattle.mr_jobs.specs.LawfulReport as report;
 ghost use Rattle.mr_jobs.specs.Meets.{IsOfInputs, MeetsSeen};
-ghost use Rattle.mr_jobs.specs.Shares.{IsSpanRound};
+ghost use Rattle.mr_jobs.specs.RoundOf.{IsRoundOfSpans};
 ghost use Rattle.mr_numeric.specs.Grids.{IsEven};
 ghost use Rattle.mr_numeric.specs.Sums.{AreMeans};
-ghost use Rattle.mr_report.specs.Shown.{rounds_seen, workers_of};
+ghost use Rattle.mr_report.specs.Shown.{rounds_seen};
 
 use crate::input::{grid_input, refused_input};
 use crate::output::Output;
@@ -65,10 +64,9 @@ fn round_from<T: Threads + Sync, G: Gate + Sync>(
     requires own { is_shared job.now.container ≡ false }
     requires few { length grid.now ≤ input_limit }
     requires fit { AreMeans (columns_of grid.now) means.now }
-    ensures rows { MeetsSeen (λ r. r.rows) (round_of nat_cmp (inside_of job.now.container job.now.capacity) false vecsum_folded
-        (kmeans_emissions means.now grid.now)) result }
-    ensures shares { IfOk result (λ r. IsSpanRound (inside_of job.now.container job.now.capacity) workers.now.count
-        job.now.chunk (length grid.now) (kmeans_emits means.now grid.now) (workers_of r.shares.items)) }
+    ensures { IsRoundOfSpans (inside_of job.now.container job.now.capacity) false vecsum_folded
+        workers.now.count job.now.chunk (length grid.now) (kmeans_emits means.now grid.now)
+        (kmeans_emissions means.now grid.now) result }
 {
     let mapper = KMeans::new(grid, means, spans(grid.rows(), job.chunk));
     number_round::<T, G, KMeans, VecSum, Plain>(workers, job, &mapper)
@@ -84,10 +82,9 @@ fn round_in<T: Threads + Sync, G: Gate + Sync>(
     requires own { is_shared job.now.container ≡ false }
     requires few { length grid.now ≤ input_limit }
     requires fit { AreMeans (columns_of grid.now) moving.now.means }
-    ensures rows { MeetsSeen (λ r. r.rows) (round_of nat_cmp (inside_of job.now.container job.now.capacity) false vecsum_folded
-        (kmeans_emissions moving.now.means grid.now)) result }
-    ensures shares { IfOk result (λ r. IsSpanRound (inside_of job.now.container job.now.capacity) workers.now.count
-        job.now.chunk (length grid.now) (kmeans_emits moving.now.means grid.now) (workers_of r.shares.items)) }
+    ensures { IsRoundOfSpans (inside_of job.now.container job.now.capacity) false vecsum_folded
+        workers.now.count job.now.chunk (length grid.now) (kmeans_emits moving.now.means grid.now)
+        (kmeans_emissions moving.now.means grid.now) result }
 {
     round_from(workers, job, grid, &moving.means)
 }
@@ -167,7 +164,7 @@ pub(crate) fn kmeans<T: Threads + Sync, G: Gate + Sync>(
     ensures of_inputs { IsOfInputs result }
     ensures shares { IfOk result (λ o. report.IsLawfulReport (seen job.now) inputs.now workers.now.count (rounds_seen o.rounds.items)) }
 {
-    match grid_input(workers.alloc, inputs, 0) {
+    match grid_input(workers, inputs, 0) {
         Ok(grid) => moved(workers, job, &grid),
         Err(stop) => Err(stop),
     }

@@ -3,19 +3,21 @@ ghost use Rattle.std.specs.List.{range_with_len};
 ghost use Rattle.std.specs.Ordering.{nat_cmp};
 ghost use Rattle.mr_capacity.specs.declared.kinds.JobKind.TheVariants as kind;
 ghost use Rattle.mr_defs.specs.Folded.{sum_folded};
+ghost use Rattle.mr_defs.specs.Limits.{input_limit};
 ghost use Rattle.mr_defs.specs.Rounds.{round_of};
 ghost use Rattle.mr_defs.specs.Tasks.{spans_of};
 ghost use Rattle.mr_items.specs.LinearRegression as items;
 ghost use Rattle.mr_jobfile.specs.Seen.{seen};
 ghost use Rattle.mr_jobs.specs.Ending.{ended_by};
-ghost use Rattle.mr_jobs.specs.JobEnding.{input_limit, inside_of, is_shared, job_ending, regression_ending};
+ghost use Rattle.mr_jobs.specs.JobEnding.{inside_of, is_shared, job_ending, regression_ending};
 ghost use Rattle.mr_jobs.specs.LawfulReport.{IsLawfulReport};
 ghost use Rattle.mr_jobs.specs.Meets.{IsOfInputs, MeetsSeen, texted};
-ghost use Rattle.mr_jobs.specs.Shares.{AreOnlyRound, IsLawfulRound, task_at};
-ghost use Rattle.mr_report.specs.Shown.{rounds_seen, workers_of};
+ghost use Rattle.mr_jobs.specs.RoundOf.{IsRoundOfSpans};
+ghost use Rattle.mr_jobs.specs.Shares.{AreOnlyRound};
+ghost use Rattle.mr_report.specs.Shown.{rounds_seen};
 
 use crate::input::{grid_input, refused_input};
-use crate::output::{Output, only_round};
+use crate::output::{Output, only};
 use crate::phases::Round;
 use crate::refusal::{Refusal, refused_fault};
 use crate::round::number_round;
@@ -25,6 +27,7 @@ use mr_capacity::CombinerKind;
 use mr_combine::{Plain, Sum};
 use mr_grid::Grid;
 use mr_jobfile::Job;
+use mr_merge::merge_all;
 use mr_numeric::{Regression, regression_text};
 use mr_outside::{Gate, Taken};
 use mr_split::spans;
@@ -39,13 +42,9 @@ fn sums<T: Threads + Sync, G: Gate + Sync>(
     requires own { is_shared job.now.container ≡ false }
     requires shape { items.is_regression_shape grid.now ≡ true }
     requires few { length grid.now ≤ input_limit }
-    ensures rows { MeetsSeen (λ r. r.rows) (round_of nat_cmp (inside_of job.now.container job.now.capacity)
-        (is_shared job.now.container) sum_folded
-        (items.linear_regression_emissions grid.now)) result }
-    ensures shares { IfOk result (λ r. IsLawfulRound nat_cmp (inside_of job.now.container job.now.capacity) workers.now.count
-        (length (spans_of job.now.chunk (length grid.now)))
-        (task_at (items.linear_regression_emits grid.now) (range_with_len 0 (length grid.now)) (spans_of job.now.chunk (length grid.now)))
-        (workers_of r.shares.items)) }
+    ensures { IsRoundOfSpans (inside_of job.now.container job.now.capacity) (is_shared job.now.container) sum_folded
+        workers.now.count job.now.chunk (length grid.now) (items.linear_regression_emits grid.now)
+        (items.linear_regression_emissions grid.now) result }
 {
     let mapper = Regression::new(grid, spans(grid.rows(), job.chunk));
     number_round::<T, G, Regression, Sum, Plain>(workers, job, &mapper)
@@ -69,9 +68,10 @@ fn line_text<T: Threads + Sync, G: Gate + Sync>(
         (rounds_seen o.rounds.items)) }
 {
     match sums(workers, job, grid) {
-        Ok(Round { rows, shares }) => {
+        Ok(Round { lists, shares }) => {
+            let rows = merge_all(workers.rt, workers.alloc, lists)?;
             let text = regression_text(workers.alloc, &rows)?;
-            let rounds = only_round(workers.alloc, shares)?;
+            let rounds = only(workers.alloc, shares)?;
             Ok(Output { text, rounds })
         }
         Err(Stop::Refused(fault)) => Err(Stop::Refused(refused_fault(workers.alloc, &fault)?)),
@@ -116,7 +116,7 @@ pub(crate) fn linear_regression<T: Threads + Sync, G: Gate + Sync>(
     ensures of_inputs { IsOfInputs result }
     ensures shares { IfOk result (λ o. IsLawfulReport (seen job.now) inputs.now workers.now.count (rounds_seen o.rounds.items)) }
 {
-    match grid_input(workers.alloc, inputs, 0) {
+    match grid_input(workers, inputs, 0) {
         Ok(grid) => line_through(workers, job, &grid),
         Err(stop) => Err(stop),
     }

@@ -1,19 +1,20 @@
-ghost use Rattle.std.specs.Prelude.{◌≡◌, ◌≤◌, ◌*◌, All, IfOk, decimal, flat_map, length, true};
+ghost use Rattle.std.specs.Prelude.{◌≡◌, ◌≤◌, ◌*◌, All, IfOk, decimal, length, true};
 ghost use Rattle.std.specs.List.{range_with_len};
 ghost use Rattle.std.specs.Ordering.{nat_cmp};
 ghost use Rattle.mr_capacity.specs.Folds.{folded};
 ghost use Rattle.mr_capacity.specs.declared.kinds.JobKind.TheVariants as kind;
-ghost use Rattle.mr_defs.specs.Rounds.{round_of};
+ghost use Rattle.mr_defs.specs.Limits.{input_limit};
 ghost use Rattle.mr_defs.specs.Tasks.{most_tasks, spans_of};
 ghost use Rattle.mr_items.specs.Grid.{columns_of};
 ghost use Rattle.mr_items.specs.MatrixProduct.{is_product_shape, matrix_product_emits, matrix_product_emissions};
 ghost use Rattle.mr_items.specs.Texts.{rows_text};
 ghost use Rattle.mr_jobfile.specs.Seen.{seen};
-ghost use Rattle.mr_jobs.specs.JobEnding.{input_limit, inside_of, is_shared, job_ending, number_keys, product_ending};
+ghost use Rattle.mr_jobs.specs.JobEnding.{inside_of, is_shared, job_ending, number_keys, product_ending};
 ghost use Rattle.mr_jobs.specs.LawfulReport.{IsLawfulReport};
 ghost use Rattle.mr_jobs.specs.Meets.{IsOfInputs, MeetsSeen};
-ghost use Rattle.mr_jobs.specs.Shares.{AreOnlyRound, IsLawfulRound};
-ghost use Rattle.mr_report.specs.Shown.{rounds_seen, workers_of};
+ghost use Rattle.mr_jobs.specs.RoundOf.{IsRoundOfTasks};
+ghost use Rattle.mr_jobs.specs.Shares.{AreOnlyRound};
+ghost use Rattle.mr_report.specs.Shown.{rounds_seen};
 
 use crate::input::{grid_input, refused_input};
 use crate::output::{Output, rows_output};
@@ -53,11 +54,9 @@ fn product_rows<T: Threads + Sync, G: Gate + Sync, M: Mapper<Key = NumKey, Value
 ) -> Result<Round<NumKey>, Stop<Fault<NumKey>>>
     requires kind { job.now.job ≡ kind.MatrixProduct }
     requires tasks { M.task_count mapper.now ≤ most_tasks }
-    ensures rows { MeetsSeen (λ r. r.rows) (round_of nat_cmp (inside_of job.now.container job.now.capacity)
-        (is_shared job.now.container) (folded job.now.combiner job.now.reducer)
-        (flat_map (M.task_emissions mapper.now) (range_with_len 0 (M.task_count mapper.now)))) result }
-    ensures shares { IfOk result (λ r. IsLawfulRound nat_cmp (inside_of job.now.container job.now.capacity)
-        workers.now.count (M.task_count mapper.now) (M.task_emissions mapper.now) (workers_of r.shares.items)) }
+    ensures { IsRoundOfTasks nat_cmp (inside_of job.now.container job.now.capacity) (is_shared job.now.container)
+        (folded job.now.combiner job.now.reducer)
+        workers.now.count (M.task_count mapper.now) (M.task_emissions mapper.now) result }
 {
     match job.combiner {
         CombinerKind::Once => once_round(workers, job, mapper),
@@ -87,7 +86,7 @@ fn multiplied<T: Threads + Sync, G: Gate + Sync>(
     let turned = right.turned(workers.alloc)?;
     let spans = spans(elements(left, right), job.chunk);
     let mapper = Product::new(left, &turned, spans);
-    rows_output(workers.alloc, product_rows(workers, job, &mapper))
+    rows_output(workers, product_rows(workers, job, &mapper))
 }
 
 // A row of the left grid is as long as a column of the right one, and the product has no more elements than it may have.
@@ -135,11 +134,11 @@ pub(crate) fn matrix_product<T: Threads + Sync, G: Gate + Sync>(
     ensures of_inputs { IsOfInputs result }
     ensures shares { IfOk result (λ o. IsLawfulReport (seen job.now) inputs.now workers.now.count (rounds_seen o.rounds.items)) }
 {
-    let left = match grid_input(workers.alloc, inputs, 0) {
+    let left = match grid_input(workers, inputs, 0) {
         Ok(left) => left,
         Err(stop) => return Err(stop),
     };
-    match grid_input(workers.alloc, inputs, 1) {
+    match grid_input(workers, inputs, 1) {
         Ok(right) => product(workers, job, &left, &right),
         Err(stop) => Err(stop),
     }

@@ -1,22 +1,22 @@
-ghost use Rattle.std.specs.Prelude.{◌≡◌, ◌<◌, ◌≤◌, ◌∷◌, [], All, IfOk, List, ℕ, length, slice_index_or};
-ghost use Rattle.std.specs.declared.result.Result.{Result};
+ghost use Rattle.std.specs.Prelude.{◌≡◌, ◌<◌, ◌≤◌, ◌∷◌, [], All, IfOk, List, length, slice_index_or};
 ghost use Rattle.mr_defs.specs.Emission.{Row};
-ghost use Rattle.mr_defs.specs.declared.Fault.{Fault};
+ghost use Rattle.mr_defs.specs.Limits.{input_limit};
 ghost use Rattle.mr_items.specs.Texts as texts;
-ghost use Rattle.mr_jobs.specs.Ending.{ended_by};
-ghost use Rattle.mr_jobs.specs.JobEnding.{input_limit};
 ghost use Rattle.mr_jobs.specs.Generated.{written_text};
-ghost use Rattle.mr_jobs.specs.Meets.{IsOfInputs, MeetsSeen, texted};
-ghost use Rattle.mr_jobs.specs.Shares.{HasShares};
+ghost use Rattle.mr_jobs.specs.Outputs.{IsWritten};
+ghost use Rattle.mr_merge.specs.Merged.{AreMerged, CanMerge, IsMergedText};
 
 use crate::phases::Round;
 use crate::refusal::{Refusal, refused_fault};
+use crate::workers::Workers;
 use mr_base::{Fault, Few, Key, Memory, Rows, Stop, Text};
 use mr_generator::summary;
+use mr_merge::{merge_all, merged_text};
 use mr_outside::Taken;
 use mr_report::Share;
 use mr_text::rows_text;
 use std::alloc::Global;
+use std::thread::Threads;
 
 /// What a job that wasn't refused gives.
 #[derive(Drop)]
@@ -44,57 +44,75 @@ pub enum Written {
     Summary(usize),
 }
 
-// The text that is written of rows.
-fn written_text<K: Key>(alloc: Global, written: Written, rows: &Rows<K>) -> Result<Text, Memory>
-    ensures { IfOk result (λ text. text ≡ written_text written K.printed rows.now) }
+// The text of the rows of a round: of one list as it stands, and of several by ranges, beside each other.
+fn rows_text_of<T: Threads + Sync, G, K: Key + Send + Sync>(
+    workers: &Workers<T, G>,
+    lists: Few<Rows<K>>,
+) -> Result<Text, Memory>
+    requires { CanMerge K.cmp lists.items }
+    ensures { IfOk result (IsMergedText K.cmp K.printed lists.items) }
 {
-    let text = rows_text(alloc, rows)?;
-    match written {
-        Written::Rows => Ok(text),
-        Written::Summary(input) => summary(alloc, input, rows.len() as usize, &text),
+    if lists.len() > 1 {
+        return merged_text(workers.rt, workers.alloc, lists);
     }
+    let rows = merge_all(workers.rt, workers.alloc, lists)?;
+    rows_text(workers.alloc, &rows)
 }
 
-/// The shares of the only round.
-pub(crate) fn only_round(alloc: Global, shares: Few<Share>) -> Result<Few<Few<Share>>, Memory>
-    ensures { IfOk result (λ rounds. rounds.items ≡ shares ∷ []) }
+// What is written of the lists of a round. Where it is the text of their rows, no row is moved.
+fn text_of<T: Threads + Sync, G, K: Key + Send + Sync>(
+    workers: &Workers<T, G>,
+    written: Written,
+    lists: Few<Rows<K>>,
+) -> Result<Text, Memory>
+    requires { CanMerge K.cmp lists.items }
+    ensures { IfOk result (λ text. (rows : List (Row K)) × AreMerged K.cmp lists.items rows
+        × (text ≡ written_text written K.printed rows)) }
 {
-    let mut rounds = Few::with_room(alloc, 1)?;
-    rounds.push(shares);
-    Ok(rounds)
+    let Written::Summary(input) = written else {
+        return rows_text_of(workers, lists);
+    };
+    let rows = merge_all(workers.rt, workers.alloc, lists)?;
+    let text = rows_text(workers.alloc, &rows)?;
+    summary(workers.alloc, input, rows.len(), &text)
+}
+
+/// The list of one.
+pub(crate) fn only<T: Drop>(alloc: Global, item: T) -> Result<Few<T>, Memory>
+    ensures { IfOk result (λ list. list.items ≡ item ∷ []) }
+{
+    let mut list = Few::with_room(alloc, 1)?;
+    list.push(item);
+    Ok(list)
 }
 
 /// What is written of the rows of a round, or the refusal of its fault.
-pub(crate) fn written_output<K: Key>(
-    alloc: Global,
+pub(crate) fn written_output<T: Threads + Sync, G, K: Key + Send + Sync>(
+    workers: &Workers<T, G>,
     written: Written,
     round: Result<Round<K>, Stop<Fault<K>>>,
 ) -> Result<Output, Stop<Refusal>>
-    ensures ending { (meant : Result (List (Row K)) (Fault K)) → MeetsSeen (λ r. r.rows) meant round
-        → MeetsSeen (λ o. o.text) (ended_by K.shown_of (texted (written_text written K.printed) meant)) result }
-    ensures of_inputs { IsOfInputs result }
-    ensures shares { IfOk result (λ o. HasShares round o.rounds.items) }
+    requires merge { IfOk round (λ r. CanMerge K.cmp r.lists.items) }
+    ensures { IsWritten K.cmp K.shown_of (written_text written K.printed) round result }
 {
     match round {
-        Ok(Round { rows, shares }) => {
-            let text = written_text(alloc, written, &rows)?;
-            let rounds = only_round(alloc, shares)?;
+        Ok(Round { lists, shares }) => {
+            let text = text_of(workers, written, lists)?;
+            let rounds = only(workers.alloc, shares)?;
             Ok(Output { text, rounds })
         }
-        Err(Stop::Refused(fault)) => Err(Stop::Refused(refused_fault(alloc, &fault)?)),
+        Err(Stop::Refused(fault)) => Err(Stop::Refused(refused_fault(workers.alloc, &fault)?)),
         Err(Stop::Memory) => Err(Stop::Memory),
     }
 }
 
 /// The text of the rows of a round, or the refusal of its fault.
-pub(crate) fn rows_output<K: Key>(
-    alloc: Global,
+pub(crate) fn rows_output<T: Threads + Sync, G, K: Key + Send + Sync>(
+    workers: &Workers<T, G>,
     round: Result<Round<K>, Stop<Fault<K>>>,
 ) -> Result<Output, Stop<Refusal>>
-    ensures ending { (meant : Result (List (Row K)) (Fault K)) → MeetsSeen (λ r. r.rows) meant round
-        → MeetsSeen (λ o. o.text) (ended_by K.shown_of (texted (texts.rows_text K.printed) meant)) result }
-    ensures of_inputs { IsOfInputs result }
-    ensures shares { IfOk result (λ o. HasShares round o.rounds.items) }
+    requires merge { IfOk round (λ r. CanMerge K.cmp r.lists.items) }
+    ensures { IsWritten K.cmp K.shown_of (texts.rows_text K.printed) round result }
 {
-    written_output(alloc, Written::Rows, round)
+    written_output(workers, Written::Rows, round)
 }

@@ -1,18 +1,17 @@
 ghost use Rattle.std.specs.Prelude.{◌≡◌, ◌≤◌, [], All, IfOk, false, length, nat_abs};
-ghost use Rattle.std.specs.Ordering.{nat_cmp};
 ghost use Rattle.mr_capacity.specs.declared.kinds.JobKind.TheVariants as kind;
 ghost use Rattle.mr_defs.specs.Folded.{sum_folded};
-ghost use Rattle.mr_defs.specs.Rounds.{round_of};
+ghost use Rattle.mr_defs.specs.Limits.{greatest_element, input_limit};
 ghost use Rattle.mr_items.specs.Grid.{columns_of};
 ghost use Rattle.mr_items.specs.Pca.{column_emits, column_emissions, pca_emissions, pca_next, spread_emits, spread_emissions};
 ghost use Rattle.mr_jobfile.specs.Seen.{seen};
-ghost use Rattle.mr_jobs.specs.JobEnding.{input_limit, inside_of, is_shared, job_ending, pca_ending};
+ghost use Rattle.mr_jobs.specs.JobEnding.{inside_of, is_shared, job_ending, pca_ending};
 ghost use Rattle.mr_jobs.specs.LawfulReport as report;
 ghost use Rattle.mr_jobs.specs.Meets.{IsOfInputs, MeetsSeen};
 ghost use Rattle.mr_jobs.specs.Passes.{IsPassOver};
-ghost use Rattle.mr_jobs.specs.Shares.{IsSpanRound};
+ghost use Rattle.mr_jobs.specs.RoundOf.{IsRoundOfSpans};
 ghost use Rattle.mr_numeric.specs.Grids.{IsEven};
-ghost use Rattle.mr_report.specs.Shown.{rounds_seen, workers_of};
+ghost use Rattle.mr_report.specs.Shown.{rounds_seen};
 
 use crate::input::grid_input;
 use crate::output::Output;
@@ -68,10 +67,9 @@ fn sums<T: Threads + Sync, G: Gate + Sync>(
 ) -> Result<Round<NumKey>, Stop<Fault<NumKey>>>
     requires own { is_shared job.now.container ≡ false }
     requires few { length grid.now ≤ input_limit }
-    ensures rows { MeetsSeen (λ r. r.rows) (round_of nat_cmp (inside_of job.now.container job.now.capacity) false sum_folded
-        (column_emissions grid.now)) result }
-    ensures shares { IfOk result (λ r. IsSpanRound (inside_of job.now.container job.now.capacity) workers.now.count
-        job.now.chunk (length grid.now) (column_emits grid.now) (workers_of r.shares.items)) }
+    ensures { IsRoundOfSpans (inside_of job.now.container job.now.capacity) false sum_folded
+        workers.now.count job.now.chunk (length grid.now) (column_emits grid.now)
+        (column_emissions grid.now) result }
 {
     let mapper = ColumnSums::new(grid, spans(grid.rows(), job.chunk));
     number_round::<T, G, ColumnSums, Sum, Plain>(workers, job, &mapper)
@@ -88,11 +86,10 @@ fn products<T: Threads + Sync, G: Gate + Sync>(
     requires few { length grid.now ≤ input_limit }
     requires narrow { columns_of grid.now ≤ 1024 }
     requires each { length means.now ≡ columns_of grid.now }
-    requires small { All (λ z. nat_abs z ≤ 2147483647) means.now }
-    ensures rows { MeetsSeen (λ r. r.rows) (round_of nat_cmp (inside_of job.now.container job.now.capacity) false sum_folded
-        (spread_emissions means.now grid.now)) result }
-    ensures shares { IfOk result (λ r. IsSpanRound (inside_of job.now.container job.now.capacity) workers.now.count
-        job.now.chunk (length grid.now) (spread_emits means.now grid.now) (workers_of r.shares.items)) }
+    requires small { All (λ z. nat_abs z ≤ greatest_element) means.now }
+    ensures { IsRoundOfSpans (inside_of job.now.container job.now.capacity) false sum_folded
+        workers.now.count job.now.chunk (length grid.now) (spread_emits means.now grid.now)
+        (spread_emissions means.now grid.now) result }
 {
     let mapper = Spread::new(grid, means, spans(grid.rows(), job.chunk));
     number_round::<T, G, Spread, Sum, Plain>(workers, job, &mapper)
@@ -109,10 +106,9 @@ fn pass_over<T: Threads + Sync, G: Gate + Sync>(
     requires few { length grid.now ≤ input_limit }
     requires narrow { columns_of grid.now ≤ 1024 }
     requires fits { IsPassOver grid.now pass.now }
-    ensures rows { MeetsSeen (λ r. r.rows) (round_of nat_cmp (inside_of job.now.container job.now.capacity) false sum_folded
-        (pca_emissions grid.now pass.now)) result }
-    ensures shares { IfOk result (λ r. IsSpanRound (inside_of job.now.container job.now.capacity) workers.now.count
-        job.now.chunk (length grid.now) (report.pca_emits grid.now pass.now) (workers_of r.shares.items)) }
+    ensures { IsRoundOfSpans (inside_of job.now.container job.now.capacity) false sum_folded
+        workers.now.count job.now.chunk (length grid.now) (report.pca_emits grid.now pass.now)
+        (pca_emissions grid.now pass.now) result }
 {
     match &pass.means {
         Some(means) => products(workers, job, grid, means),
@@ -193,7 +189,7 @@ pub(crate) fn pca<T: Threads + Sync, G: Gate + Sync>(
     ensures of_inputs { IsOfInputs result }
     ensures shares { IfOk result (λ o. report.IsLawfulReport (seen job.now) inputs.now workers.now.count (rounds_seen o.rounds.items)) }
 {
-    match grid_input(workers.alloc, inputs, 0) {
+    match grid_input(workers, inputs, 0) {
         Ok(grid) => passes(workers, job, &grid),
         Err(stop) => Err(stop),
     }

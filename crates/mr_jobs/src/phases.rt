@@ -7,10 +7,9 @@ ghost use Rattle.std.specs.Ordering.{eq_by_cmp};
 ghost use Rattle.mr_base.specs.Noting.{noted_of};
 ghost use Rattle.mr_defs.specs.Emission.{Emission};
 ghost use Rattle.mr_defs.specs.Partitions.{concatenated};
-ghost use Rattle.mr_defs.specs.Rounds.{round_of};
 ghost use Rattle.mr_defs.specs.Tasks.{most_tasks};
-ghost use Rattle.mr_jobs.specs.Meets.{MeetsSeen};
-ghost use Rattle.mr_jobs.specs.Shares.{AreShares, IsLawfulRound};
+ghost use Rattle.mr_jobs.specs.RoundOf.{IsRoundOfTasks};
+ghost use Rattle.mr_jobs.specs.Shares.{AreShares};
 ghost use Rattle.mr_phase.specs.Spread.{IsSpreadOf};
 ghost use Rattle.mr_report.specs.Shown.{work_of, workers_of};
 
@@ -20,7 +19,6 @@ use mr_capacity::QueueKind;
 use mr_combine::{Combiner, Reducer};
 use mr_container::{Mapper, Parted};
 use mr_jobfile::Job;
-use mr_merge::merge_all;
 use mr_outside::Gate;
 use mr_phase::{Hand, Mapped, Reduced, gather, map_phase, reduce_phase};
 use mr_queues::AnyQueues;
@@ -28,10 +26,10 @@ use mr_report::Share;
 use std::alloc::Global;
 use std::thread::Threads;
 
-/// What a round gives: its rows, ascending by key, and what each worker did.
+/// What a round gives: its rows in lists, each of which ascends by key, and what each worker did.
 #[derive(Drop)]
 pub(crate) struct Round<K> {
-    pub(crate) rows: Rows<K>,
+    pub(crate) lists: Few<Rows<K>>,
     pub(crate) shares: Few<Share>,
 }
 
@@ -145,8 +143,8 @@ fn keys_are_ordered<K: Key>()
     ensures one { IsAntisymmetric K.cmp }
 {}
 
-/// One round over these locals, one for each worker, which stand for no emission yet: the rows of what all tasks emit, or the first fault of that.
-/// Each worker runs in a thread of its own where one can be made.
+/// One round over these locals, one for each worker, which stand for no emission yet: the rows of what all tasks emit, or the first fault
+/// of that. Each worker runs in a thread of its own where one can be made.
 ///
 /// This is the one place where tasks are mapped and cells reduced.
 pub(crate) fn run_round<
@@ -168,10 +166,8 @@ where
     <L::Fold as Combiner>::Cell: Send,
     requires few { M.task_count mapper.now ≤ most_tasks }
     requires locals { (length locals.items ≡ workers.now.count) × All (λ local. L.stands local []) locals.items }
-    ensures rows { MeetsSeen (λ r. r.rows) (round_of L.Key.cmp L.inside false R.folded
-        (flat_map (M.task_emissions mapper.now) (range_with_len 0 (M.task_count mapper.now)))) result }
-    ensures shares { IfOk result (λ r. IsLawfulRound L.Key.cmp L.inside workers.now.count
-        (M.task_count mapper.now) (M.task_emissions mapper.now) (workers_of r.shares.items)) }
+    ensures { IsRoundOfTasks L.Key.cmp L.inside false R.folded
+        workers.now.count (M.task_count mapper.now) (M.task_emissions mapper.now) result }
 {
     keys_are_ordered::<L::Key>();
     let mapped = map_tasks::<T, G, L, M>(workers, job.queue, mapper, locals)?;
@@ -179,9 +175,6 @@ where
     let Reduced { lists, faults } = reduce_cells::<T, G, L, R>(workers, job, mapped)?;
     match faults.first() {
         Some(fault) => Err(Stop::Refused(fault)),
-        None => Ok(Round {
-            rows: merge_all(workers.rt, workers.alloc, lists)?,
-            shares,
-        }),
+        None => Ok(Round { lists, shares }),
     }
 }

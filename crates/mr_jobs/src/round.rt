@@ -1,14 +1,11 @@
 ghost use Rattle.std.specs.Prelude.{◌≡◌, ◌≤◌, [], All, IfOk, false, length};
-ghost use Rattle.std.specs.List.{flat_map, range_with_len};
 ghost use Rattle.std.specs.Ordering.{nat_cmp};
 ghost use Rattle.mr_capacity.specs.Folds.{folded};
-ghost use Rattle.mr_defs.specs.Rounds.{round_of};
+ghost use Rattle.mr_defs.specs.Limits.{greatest_capacity};
 ghost use Rattle.mr_defs.specs.Tasks.{most_tasks};
 ghost use Rattle.mr_items.specs.Keys.{all_inside, below};
 ghost use Rattle.mr_jobs.specs.JobEnding.{inside_of, is_shared};
-ghost use Rattle.mr_jobs.specs.Meets.{MeetsSeen};
-ghost use Rattle.mr_jobs.specs.Shares.{IsLawfulRound};
-ghost use Rattle.mr_report.specs.Shown.{workers_of};
+ghost use Rattle.mr_jobs.specs.RoundOf.{IsRoundOfTasks};
 
 use crate::phases::{Round, run_round};
 use crate::workers::Workers;
@@ -24,8 +21,8 @@ use std::alloc::Global;
 use std::marker::Brand;
 use std::thread::Threads;
 
-// How many buckets a hash table has, whatever capacity the job names: no answer shows it, and at each number all that works on tables would be
-// compiled once more.
+// How many buckets a hash table has, whatever capacity the job names: no answer shows it, and at each number all that works on tables would
+// be compiled once more.
 const BUCKETS: usize = 65536;
 
 // As many tables as there are workers.
@@ -51,7 +48,7 @@ fn arrays<C: Combiner, S: Size>(
 ) -> Result<Few<ArrayLocal<C, S>>, Memory>
     requires size { size ≡ S.size }
     requires some { 1 ≤ size }
-    requires few { size ≤ 65536 }
+    requires few { size ≤ greatest_capacity }
     ensures count { IfOk result (λ arrays. length arrays.items ≡ count) }
     ensures empty { IfOk result (λ arrays. All (λ array. ⟦<ArrayLocal<C, S> as Local>⟧.stands array []) arrays.items) }
 {
@@ -75,18 +72,35 @@ where
     M::Value: Send,
     C::Cell: Send + Sync,
     requires tasks { M.task_count mapper.now ≤ most_tasks }
-    ensures rows { MeetsSeen (λ r. r.rows) (round_of M.Key.cmp all_inside false R.folded
-        (flat_map (M.task_emissions mapper.now) (range_with_len 0 (M.task_count mapper.now)))) result }
-    ensures shares { IfOk result (λ r. IsLawfulRound M.Key.cmp all_inside workers.now.count
-        (M.task_count mapper.now) (M.task_emissions mapper.now) (workers_of r.shares.items)) }
+    ensures { IsRoundOfTasks M.Key.cmp all_inside false R.folded
+        workers.now.count (M.task_count mapper.now) (M.task_emissions mapper.now) result }
 {
     let tables = tables::<M::Key, C>(workers.alloc, workers.count())?;
     run_round::<T, G, HashLocal<M::Key, C, BUCKETS>, M, R>(workers, job, mapper, tables)
 }
 
+/// The same of whole numbers, whose values are combined as the job says.
+pub(crate) fn table_round<
+    T: Threads + Sync,
+    G: Gate + Sync,
+    M: Mapper<Value = i64> + Sync,
+    C: Combiner<Value = i64> + Send + Sync,
+    R: Reducer<C> + Send,
+>(workers: &Workers<T, G>, job: &Job, mapper: &M) -> Result<Round<M::Key>, Stop<Fault<M::Key>>>
+where
+    M::Key: Send + Sync,
+    C::Cell: Send + Sync,
+    requires tasks { M.task_count mapper.now ≤ most_tasks }
+    requires fold { R.folded ≡ folded job.now.combiner job.now.reducer }
+    ensures { IsRoundOfTasks M.Key.cmp all_inside false (folded job.now.combiner job.now.reducer)
+        workers.now.count (M.task_count mapper.now) (M.task_emissions mapper.now) result }
+{
+    hash_round::<T, G, M, C, R>(workers, job, mapper)
+}
+
 // A number that is known as a const.
 fn number<const N: usize>() -> u32
-    requires { N ≤ 65536 }
+    requires { N ≤ greatest_capacity }
     ensures { result ≡ N }
 {
     N as u32
@@ -96,7 +110,7 @@ fn number<const N: usize>() -> u32
 pub(crate) fn size_of(job: &Job) -> u32
     ensures same { result ≡ job.now.capacity }
     ensures some { 1 ≤ result }
-    ensures few { result ≤ 65536 }
+    ensures few { result ≤ greatest_capacity }
 {
     at_capacity!(job.capacity, number<>())
 }
@@ -121,11 +135,9 @@ where
     requires tasks { M.task_count mapper.now ≤ most_tasks }
     requires size { size ≡ S.size }
     requires some { 1 ≤ size }
-    requires few { size ≤ 65536 }
-    ensures rows { MeetsSeen (λ r. r.rows) (round_of nat_cmp (below size) false R.folded
-        (flat_map (M.task_emissions mapper.now) (range_with_len 0 (M.task_count mapper.now)))) result }
-    ensures shares { IfOk result (λ r. IsLawfulRound nat_cmp (below size) workers.now.count
-        (M.task_count mapper.now) (M.task_emissions mapper.now) (workers_of r.shares.items)) }
+    requires few { size ≤ greatest_capacity }
+    ensures { IsRoundOfTasks nat_cmp (below size) false R.folded
+        workers.now.count (M.task_count mapper.now) (M.task_emissions mapper.now) result }
 {
     let arrays = arrays::<C, S>(workers.alloc, workers.count(), size)?;
     run_round::<T, G, ArrayLocal<C, S>, M, R>(workers, job, mapper, arrays)
@@ -143,10 +155,8 @@ where
     M::Value: Send,
     C::Cell: Send + Sync,
     requires tasks { M.task_count mapper.now ≤ most_tasks }
-    ensures rows { MeetsSeen (λ r. r.rows) (round_of nat_cmp (below job.now.capacity) false R.folded
-        (flat_map (M.task_emissions mapper.now) (range_with_len 0 (M.task_count mapper.now)))) result }
-    ensures shares { IfOk result (λ r. IsLawfulRound nat_cmp (below job.now.capacity) workers.now.count
-        (M.task_count mapper.now) (M.task_emissions mapper.now) (workers_of r.shares.items)) }
+    ensures { IsRoundOfTasks nat_cmp (below job.now.capacity) false R.folded
+        workers.now.count (M.task_count mapper.now) (M.task_emissions mapper.now) result }
 {
     in_array::<T, G, M, C, R, Brand>(workers, job, mapper, size_of(job))
 }
@@ -164,11 +174,8 @@ where
     C::Cell: Send + Sync,
     requires tasks { M.task_count mapper.now ≤ most_tasks }
     requires own { is_shared job.now.container ≡ false }
-    ensures rows { MeetsSeen (λ r. r.rows) (round_of nat_cmp (inside_of job.now.container job.now.capacity)
-        (is_shared job.now.container) R.folded
-        (flat_map (M.task_emissions mapper.now) (range_with_len 0 (M.task_count mapper.now)))) result }
-    ensures shares { IfOk result (λ r. IsLawfulRound nat_cmp (inside_of job.now.container job.now.capacity) workers.now.count
-        (M.task_count mapper.now) (M.task_emissions mapper.now) (workers_of r.shares.items)) }
+    ensures { IsRoundOfTasks nat_cmp (inside_of job.now.container job.now.capacity) (is_shared job.now.container) R.folded
+        workers.now.count (M.task_count mapper.now) (M.task_emissions mapper.now) result }
 {
     match job.container {
         ContainerKind::Hash => hash_round::<T, G, M, C, R>(workers, job, mapper),
@@ -190,11 +197,9 @@ where
     requires tasks { M.task_count mapper.now ≤ most_tasks }
     requires own { is_shared job.now.container ≡ false }
     requires fold { R.folded ≡ folded job.now.combiner job.now.reducer }
-    ensures rows { MeetsSeen (λ r. r.rows) (round_of nat_cmp (inside_of job.now.container job.now.capacity) (is_shared job.now.container)
-        (folded job.now.combiner job.now.reducer) (flat_map (M.task_emissions mapper.now) (range_with_len 0 (M.task_count mapper.now))))
-        result }
-    ensures shares { IfOk result (λ r. IsLawfulRound nat_cmp (inside_of job.now.container job.now.capacity) workers.now.count
-        (M.task_count mapper.now) (M.task_emissions mapper.now) (workers_of r.shares.items)) }
+    ensures { IsRoundOfTasks nat_cmp (inside_of job.now.container job.now.capacity) (is_shared job.now.container)
+        (folded job.now.combiner job.now.reducer)
+        workers.now.count (M.task_count mapper.now) (M.task_emissions mapper.now) result }
 {
     number_round::<T, G, M, C, R>(workers, job, mapper)
 }

@@ -8,7 +8,8 @@ ghost use Rattle.mr_defs.specs.Tasks.{spans_of};
 ghost use Rattle.mr_jobs.specs.Ending.{ended_by};
 ghost use Rattle.mr_jobs.specs.JobEnding.{inside_of};
 ghost use Rattle.mr_jobs.specs.Meets.{IsOfInputs, MeetsSeen, texted};
-ghost use Rattle.mr_jobs.specs.Outcomes.{IsRound, LeadsTo, next_of};
+ghost use Rattle.mr_jobs.specs.Outcomes.{LeadsTo, next_of};
+ghost use Rattle.mr_jobs.specs.RoundOf.{IsRoundOfSpans};
 ghost use Rattle.mr_jobs.specs.Shares.{AreLawfulRounds, IsSpanRound, task_at};
 ghost use Rattle.mr_report.specs.Shown.{rounds_seen, workers_of};
 
@@ -18,8 +19,10 @@ use crate::refusal::{Refusal, refused_fault};
 use crate::workers::Workers;
 use mr_base::{Emitted, Fault, Few, Memory, NumKey, Rows, Stop, Text};
 use mr_jobfile::Job;
+use mr_merge::merge_all;
 use mr_report::Share;
 use std::alloc::Global;
+use std::thread::Threads;
 
 /// What a round leads to: another round, in this state, or the text of the job.
 #[derive(Drop)]
@@ -76,18 +79,22 @@ fn one_round<T, G, R: Rounds, F: Fn(&R::State) -> Result<Round<NumKey>, Stop<Fau
     requires fits { R.fits rounds.now state.now }
     requires may { (s : Bor R.State) → R.fits rounds.now s.now → F.pre round.now s }
     requires gives { (s : Bor R.State) (r : _) → R.fits rounds.now s.now → F.post round.now s r
-        → IsRound (inside_of job.now.container job.now.capacity) workers.now.count
-        job.now.chunk (R.count rounds.now) R.folded (R.emits rounds.now s.now) (R.emissions rounds.now s.now) r }
-    ensures rows { MeetsSeen (λ r. r.rows) (round_of nat_cmp (inside_of job.now.container job.now.capacity) false R.folded
-        (R.emissions rounds.now state.now)) result }
-    ensures shares { IfOk result (λ r. IsSpanRound (inside_of job.now.container job.now.capacity) workers.now.count
-        job.now.chunk (R.count rounds.now) (R.emits rounds.now state.now) (workers_of r.shares.items)) }
+        → IsRoundOfSpans (inside_of job.now.container job.now.capacity) false R.folded workers.now.count
+        job.now.chunk (R.count rounds.now) (R.emits rounds.now s.now) (R.emissions rounds.now s.now) r }
+    ensures { IsRoundOfSpans (inside_of job.now.container job.now.capacity) false R.folded
+        workers.now.count job.now.chunk (R.count rounds.now) (R.emits rounds.now state.now)
+        (R.emissions rounds.now state.now) result }
 {
     round(state)
 }
 
 // One round, and what its rows lead to, beside what each worker did in it.
-fn step<T, G, R: Rounds, F: Fn(&R::State) -> Result<Round<NumKey>, Stop<Fault<NumKey>>>>(
+fn step<
+    T: Threads + Sync,
+    G,
+    R: Rounds,
+    F: Fn(&R::State) -> Result<Round<NumKey>, Stop<Fault<NumKey>>>,
+>(
     workers: &Workers<T, G>,
     job: &Job,
     rounds: &R,
@@ -97,8 +104,8 @@ fn step<T, G, R: Rounds, F: Fn(&R::State) -> Result<Round<NumKey>, Stop<Fault<Nu
     requires fits { R.fits rounds.now state.now }
     requires may { (s : Bor R.State) → R.fits rounds.now s.now → F.pre round.now s }
     requires gives { (s : Bor R.State) (r : _) → R.fits rounds.now s.now → F.post round.now s r
-        → IsRound (inside_of job.now.container job.now.capacity) workers.now.count
-        job.now.chunk (R.count rounds.now) R.folded (R.emits rounds.now s.now) (R.emissions rounds.now s.now) r }
+        → IsRoundOfSpans (inside_of job.now.container job.now.capacity) false R.folded workers.now.count
+        job.now.chunk (R.count rounds.now) (R.emits rounds.now s.now) (R.emissions rounds.now s.now) r }
     ensures ending { MeetsSeen (λ o. next_of o.0) (ended_by decimal (texted (R.next rounds.now state.now)
         (round_of nat_cmp (inside_of job.now.container job.now.capacity) false R.folded (R.emissions rounds.now state.now)))) result }
     ensures fits { IfOk result (λ o. LeadsTo (R.fits rounds.now) o.0) }
@@ -107,7 +114,8 @@ fn step<T, G, R: Rounds, F: Fn(&R::State) -> Result<Round<NumKey>, Stop<Fault<Nu
         job.now.chunk (R.count rounds.now) (R.emits rounds.now state.now) (workers_of o.1.items)) }
 {
     match one_round(workers, job, rounds, round, state) {
-        Ok(Round { rows, shares }) => {
+        Ok(Round { lists, shares }) => {
+            let rows = merge_all(workers.rt, workers.alloc, lists)?;
             let outcome = rounds.outcome(workers.alloc, state, &rows)?;
             Ok((outcome, shares))
         }
@@ -116,12 +124,12 @@ fn step<T, G, R: Rounds, F: Fn(&R::State) -> Result<Round<NumKey>, Stop<Fault<Nu
     }
 }
 
-/// Runs the rounds of a job from its first state on, no more than so many: each on queues and in containers of its own. The first fault of the first
-/// round that has one is the refusal.
+/// Runs the rounds of a job from its first state on, no more than so many: each on queues and in containers of its own. The first fault of
+/// the first round that has one is the refusal.
 ///
 /// This is the one place where rounds are repeated.
 pub(crate) fn run_rounds<
-    T,
+    T: Threads + Sync,
     G,
     R: Rounds,
     F: Fn(&R::State) -> Result<Round<NumKey>, Stop<Fault<NumKey>>> + Drop,
@@ -136,8 +144,8 @@ pub(crate) fn run_rounds<
     requires fits { R.fits rounds.now first }
     requires may { (s : Bor R.State) → R.fits rounds.now s.now → F.pre round s }
     requires gives { (s : Bor R.State) (r : _) → R.fits rounds.now s.now → F.post round s r
-        → IsRound (inside_of job.now.container job.now.capacity) workers.now.count
-        job.now.chunk (R.count rounds.now) R.folded (R.emits rounds.now s.now) (R.emissions rounds.now s.now) r }
+        → IsRoundOfSpans (inside_of job.now.container job.now.capacity) false R.folded workers.now.count
+        job.now.chunk (R.count rounds.now) (R.emits rounds.now s.now) (R.emissions rounds.now s.now) r }
     ensures ending { MeetsSeen (λ o. o.text) (ended_by decimal
         (rounds_of nat_cmp (inside_of job.now.container job.now.capacity) false R.folded
         (R.emissions rounds.now) (R.next rounds.now) most first)) result }

@@ -8,15 +8,15 @@ ghost use Rattle.mr_capacity.specs.declared.kinds.CombinerKind.TheVariants as co
 ghost use Rattle.mr_capacity.specs.declared.kinds.ContainerKind.TheVariants as container;
 ghost use Rattle.mr_defs.specs.Faulty.{common_faults_of};
 ghost use Rattle.mr_defs.specs.Folded.{once_folded};
-ghost use Rattle.mr_defs.specs.Rounds.{round_of};
+ghost use Rattle.mr_defs.specs.Limits.{greatest_capacity};
 ghost use Rattle.mr_defs.specs.Rows.{cells_of, rows_of};
 ghost use Rattle.mr_defs.specs.Tasks.{most_tasks};
 ghost use Rattle.mr_items.specs.Keys.{below};
 ghost use Rattle.mr_jobs.specs.JobEnding.{inside_of, is_shared};
-ghost use Rattle.mr_jobs.specs.Meets.{MeetsSeen};
-ghost use Rattle.mr_jobs.specs.Shares.{IsLawfulRound};
+ghost use Rattle.mr_jobs.specs.RoundOf.{IsRoundOfTasks};
 ghost use Rattle.mr_report.specs.Shown.{workers_of};
 
+use crate::output::only;
 use crate::phases::{Round, copied};
 use crate::round::size_of;
 use crate::workers::Workers;
@@ -39,7 +39,7 @@ fn map_shared<T: Threads + Sync, G: Gate + Sync, M: Mapper<Key = NumKey, Value =
     size: u32,
 ) -> Result<CommonDone, Memory>
     requires few { M.task_count mapper.now ≤ most_tasks }
-    requires size { (1 ≤ size) × (size ≤ 65536) }
+    requires size { (1 ≤ size) × (size ≤ greatest_capacity) }
     ensures count { IfOk result (λ done. length done.hands.items ≡ workers.now.count) }
     ensures once { IfOk result (λ done. IsPermutation (range_with_len 0 (M.task_count mapper.now))
         (flat_map (λ h. h.tasks.items) done.hands.items)) }
@@ -86,16 +86,14 @@ fn common_round<T: Threads + Sync, G: Gate + Sync, M: Mapper<Key = NumKey, Value
     mapper: &M,
 ) -> Result<Round<NumKey>, Stop<Fault<NumKey>>>
     requires tasks { M.task_count mapper.now ≤ most_tasks }
-    ensures rows { MeetsSeen (λ r. r.rows) (round_of nat_cmp (below job.now.capacity) true once_folded
-        (flat_map (M.task_emissions mapper.now) (range_with_len 0 (M.task_count mapper.now)))) result }
-    ensures shares { IfOk result (λ r. IsLawfulRound nat_cmp (below job.now.capacity) workers.now.count
-        (M.task_count mapper.now) (M.task_emissions mapper.now) (workers_of r.shares.items)) }
+    ensures { IsRoundOfTasks nat_cmp (below job.now.capacity) true once_folded
+        workers.now.count (M.task_count mapper.now) (M.task_emissions mapper.now) result }
 {
     let done = map_shared(workers, job.queue, mapper, size_of(job))?;
     match done.faults.first() {
         Some(fault) => Err(Stop::Refused(fault)),
         None => Ok(Round {
-            rows: done.rows,
+            lists: only(workers.alloc, done.rows)?,
             shares: shares_of(workers.alloc, &done.hands)?,
         }),
     }
@@ -110,11 +108,9 @@ pub(crate) fn once_round<
     requires tasks { M.task_count mapper.now ≤ most_tasks }
     requires shared { job.now.container ≡ container.Common }
     requires once { job.now.combiner ≡ combiner.Once }
-    ensures rows { MeetsSeen (λ r. r.rows) (round_of nat_cmp (inside_of job.now.container job.now.capacity) (is_shared job.now.container)
-        (folded job.now.combiner job.now.reducer) (flat_map (M.task_emissions mapper.now) (range_with_len 0 (M.task_count mapper.now))))
-        result }
-    ensures shares { IfOk result (λ r. IsLawfulRound nat_cmp (inside_of job.now.container job.now.capacity) workers.now.count
-        (M.task_count mapper.now) (M.task_emissions mapper.now) (workers_of r.shares.items)) }
+    ensures { IsRoundOfTasks nat_cmp (inside_of job.now.container job.now.capacity) (is_shared job.now.container)
+        (folded job.now.combiner job.now.reducer)
+        workers.now.count (M.task_count mapper.now) (M.task_emissions mapper.now) result }
 {
     common_round(workers, job, mapper)
 }

@@ -2,7 +2,8 @@ ghost use Rattle.std.specs.Prelude.{◌≡◌, ◌≤◌};
 
 use std::alloc::Global;
 
-/// The workers that a job runs with, from 1 to 32: the threads that they run in, the memory that they take, and the gate that each enters before a task.
+/// The workers that a job runs with, from 1 to 32: the threads that they run in, the memory that they take, and the gate that each enters
+/// before a task.
 #[derive(Drop)]
 pub struct Workers<'a, T, G> {
     pub rt: &'a T,

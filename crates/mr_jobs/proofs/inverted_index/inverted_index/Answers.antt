@@ -1,25 +1,23 @@
-use Rattle.std.specs.Prelude.{slice_index_or}
-use Rattle.mr_items.specs.Keys.{all_inside, byte_order}
-use Rattle.mr_items.specs.Lines.{is_line_boundary, line_places}
-use Rattle.std.proofs.Common.{[], ap, refl}
+use Rattle.std.proofs.Common.{false, refl}
+use Rattle.mr_capacity.specs.Folds.{folded}
 use Rattle.mr_capacity.specs.declared.kinds.JobKind.TheVariants as kind
-use Rattle.mr_items.specs.InvertedIndex.{inverted_index_emits, inverted_index_emissions}
+use Rattle.mr_items.specs.FaultLines.{shown_text}
+use Rattle.mr_items.specs.InvertedIndex.{inverted_index_emits}
+use Rattle.mr_items.specs.Keys.{all_inside, byte_order}
+use Rattle.mr_items.specs.Texts.{rows_text}
 use Rattle.mr_jobfile.specs.Seen.{seen}
-use Rattle.mr_jobs.proofs.Reports.{over_pieces, report_of}
-use Rattle.mr_jobs.proofs.OneRound.{byte_rows}
+use Rattle.mr_jobs.proofs.Outputs.{job_output, output_of}
+use Rattle.mr_split.specs.declared.boundary.Boundary.{Boundary}
 use Rattle.mr_jobs.proofs.inverted_index.inverted_index.Goals as goal
 
-pub returns-clause-ending : goal.returns-clause-ending
-returns-clause-ending g c =
-    byte_rows (seen c.args.job.now) c.args.inputs.now kind.InvertedIndex c.requires.kind (λ o. o.text) c.combined.result _ _
-    (ap inverted_index_emissions c.first_input-input.ensures.input) refl
-    c.combined.ensures.ending
-
-pub returns-clause-shares : goal.returns-clause-shares
-returns-clause-shares g c =
-    let j = seen c.args.job.now in
-    let inputs = c.args.inputs.now in
-    report_of j inputs c.args.workers.now.count kind.InvertedIndex c.combined.result c.requires.kind
-    (over_pieces byte_order all_inside c.args.workers.now.count c.args.job.now.chunk is_line_boundary line_places (inverted_index_emits) _
-    (slice_index_or inputs 0 []) _ c.combined.result c.first_input-input.ensures.input c.in_ok-pieces.ensures.exact
-    c.combined.ensures.shares)
+pub returns : goal.returns
+returns g c =
+    let job = c.args.job.now in
+    let fold = folded job.combiner job.reducer in
+    let text = rows_text (λ key. key) in
+    let workers = c.args.workers.now.count in
+    job_output byte_order all_inside false fold shown_text text Boundary.Line inverted_index_emits workers (seen job) c.args.inputs.now
+    kind.InvertedIndex c.requires.kind _ c.rows_output.result c.first_input-input.ensures.input refl (λ rounds are. are)
+    (output_of byte_order all_inside false fold shown_text text Boundary.Line inverted_index_emits workers _ job.chunk _ _ _ c.placed.result
+    c.rows_output.result c.in_ok-pieces.ensures.exact c.new-mapper.ensures.count c.new-mapper.ensures.tasks c.new-mapper.ensures.whole
+    c.placed.ensures c.rows_output.ensures)

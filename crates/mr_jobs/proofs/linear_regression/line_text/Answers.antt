@@ -12,5 +12,7 @@ pub regression_text-requires : goal.regression_text-requires
 regression_text-requires g c =
     let inside = inside_of c.args.job.now.container c.args.job.now.capacity in
     let es = linear_regression_emissions c.args.grid.now in
-    subst AreSums (passed_rows nat_cmp inside (is_shared c.args.job.now.container) sum_folded es c.in-Ok.field-0.rows c.in-Ok.ensures.rows)
+    subst AreSums (passed_rows nat_cmp inside (is_shared c.args.job.now.container) sum_folded es c.in_ok-rows-in-Ok.rows
+    (c.in-Ok.ensures.rows c.in_ok-rows-in-Ok.rows
+    (record { all = c.in_ok-rows-in-Ok.ensures.all; ascend = c.in_ok-rows-in-Ok.ensures.ascends })))
     (are_sums inside es)

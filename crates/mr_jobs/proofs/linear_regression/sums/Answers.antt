@@ -1,17 +1,18 @@
-use Rattle.std.proofs.Common.{length, ap, ◌∙◌}
-use Rattle.std.specs.List.{range_with_len}
-use Rattle.std.specs.Ordering.{nat_cmp}
+use Rattle.std.proofs.Common.{refl, length, ap, ◌∙◌}
+use Rattle.mr_defs.specs.Folded.{sum_folded}
 use Rattle.mr_defs.specs.Tasks.{spans_of}
-use Rattle.mr_items.specs.LinearRegression.{linear_regression_emits}
-use Rattle.mr_jobs.specs.JobEnding.{inside_of}
-use Rattle.mr_jobs.proofs.SpanShares.{over_stretches}
+use Rattle.mr_items.specs.LinearRegression.{linear_regression_emits, linear_regression_emissions}
+use Rattle.mr_jobs.specs.JobEnding.{inside_of, is_shared}
+use Rattle.mr_jobs.proofs.SpanShares.{over_spans}
 use Rattle.mr_jobs.proofs.linear_regression.sums.Goals as goal
 
-pub returns-clause-shares : goal.returns-clause-shares
-returns-clause-shares g c =
+pub returns : goal.returns
+returns g c =
     let job = c.args.job.now in
     let grid = c.args.grid.now in
-    over_stretches nat_cmp (inside_of job.container job.capacity) c.args.workers.now.count _ _ (linear_regression_emits grid)
-    (range_with_len 0 (length grid)) c.spans.result (spans_of job.chunk (length grid)) c.number_round.result
-    c.number_round.ensures.shares c.new-mapper.ensures.count c.new-mapper.ensures.tasks
+    over_spans (inside_of job.container job.capacity) (is_shared job.container)
+    (is_shared job.container) sum_folded c.args.workers.now.count _ job.chunk
+    (length grid) _ (linear_regression_emits grid)
+    (linear_regression_emissions grid) c.spans.result c.number_round.result c.number_round.ensures
+    refl c.new-mapper.ensures.whole c.new-mapper.ensures.count c.new-mapper.ensures.tasks
     (c.spans.ensures.exact ∙ ap (spans_of job.chunk) c.rows.ensures)

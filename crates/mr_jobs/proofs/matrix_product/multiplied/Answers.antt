@@ -3,6 +3,7 @@ use Rattle.std.specs.Prelude.{IfOk, decimal}
 use Rattle.std.specs.List.{range_with_len}
 use Rattle.std.specs.Ordering.{nat_cmp}
 use Rattle.mr_capacity.specs.Folds.{folded}
+use Rattle.mr_defs.specs.Limits.{input_limit}
 use Rattle.mr_defs.specs.Tasks.{spans_of}
 use Rattle.mr_items.specs.Grid.{columns_of}
 use Rattle.mr_items.specs.MatrixProduct.{matrix_product_emits, matrix_product_emissions}
@@ -31,7 +32,7 @@ new-mapper-requires-clause-alike g c = alike c.args.left.now c.args.right.now c.
 
 pub new-mapper-requires-clause-few : goal.new-mapper-requires-clause-few
 new-mapper-requires-clause-few g c =
-    subst (λ n. n ≤ 134217728) (turned_rows c.args.left.now c.args.right.now c.in_ok-turned.turned c.in_ok-turned.ensures)
+    subst (λ n. n ≤ input_limit) (turned_rows c.args.left.now c.args.right.now c.in_ok-turned.turned c.in_ok-turned.ensures)
     (omega (arith, few_elements c.args.left.now c.args.right.now c.requires.shape))
 
 pub new-mapper-requires-clause-spans : goal.new-mapper-requires-clause-spans

@@ -1,25 +1,19 @@
-use Rattle.std.specs.Prelude.{slice_index_or}
-use Rattle.mr_items.specs.Keys.{all_inside, byte_order}
-use Rattle.mr_items.specs.Words.{is_word_boundary, word_places}
-use Rattle.std.proofs.Common.{[], ap, refl}
+use Rattle.std.proofs.Common.{false, refl}
+use Rattle.mr_capacity.specs.Folds.{folded}
 use Rattle.mr_capacity.specs.declared.kinds.JobKind.TheVariants as kind
-use Rattle.mr_items.specs.WordCount.{word_count_emits, word_count_emissions}
+use Rattle.mr_items.specs.FaultLines.{shown_text}
+use Rattle.mr_items.specs.Keys.{all_inside, byte_order}
+use Rattle.mr_items.specs.Texts.{rows_text}
+use Rattle.mr_items.specs.WordCount.{word_count_emits}
 use Rattle.mr_jobfile.specs.Seen.{seen}
-use Rattle.mr_jobs.proofs.Reports.{over_pieces, report_of}
-use Rattle.mr_jobs.proofs.OneRound.{byte_rows}
+use Rattle.mr_jobs.proofs.Outputs.{job_output}
+use Rattle.mr_split.specs.declared.boundary.Boundary.{Boundary}
 use Rattle.mr_jobs.proofs.word_count.word_count.Goals as goal
 
-pub returns-clause-ending : goal.returns-clause-ending
-returns-clause-ending g c =
-    byte_rows (seen c.args.job.now) c.args.inputs.now kind.WordCount c.requires.kind (λ o. o.text) c.combined.result _ _
-    (ap word_count_emissions c.first_input-input.ensures.input) refl
-    c.combined.ensures.ending
-
-pub returns-clause-shares : goal.returns-clause-shares
-returns-clause-shares g c =
-    let j = seen c.args.job.now in
-    let inputs = c.args.inputs.now in
-    report_of j inputs c.args.workers.now.count kind.WordCount c.combined.result c.requires.kind
-    (over_pieces byte_order all_inside c.args.workers.now.count c.args.job.now.chunk is_word_boundary word_places (word_count_emits) _
-    (slice_index_or inputs 0 []) _ c.combined.result c.first_input-input.ensures.input c.in_ok-pieces.ensures.exact
-    c.combined.ensures.shares)
+pub returns : goal.returns
+returns g c =
+    let job = c.args.job.now in
+    job_output byte_order all_inside false (folded job.combiner job.reducer) shown_text
+    (rows_text (λ key. key)) Boundary.Word word_count_emits
+    c.args.workers.now.count (seen job) c.args.inputs.now kind.WordCount c.requires.kind _ c.words.result c.first_input.ensures.input refl
+    (λ rounds are. are) c.words.ensures

@@ -1,10 +1,10 @@
-use Rattle.std.proofs.Common.{◌≡◌, ◌∙◌, false, length, Ok, ap, subst, sym}
+use Rattle.std.proofs.Common.{◌≡◌, ◌≤◌, ◌∙◌, false, length, Ok, ap, subst, sym}
 use Rattle.std.specs.List.{All}
 use Rattle.std.specs.Ordering.{nat_cmp}
 use Rattle.mr_defs.specs.Folded.{sum_folded}
 use Rattle.mr_defs.specs.Rounds.{round_of}
 use Rattle.mr_items.specs.Pca.{column_means, pca_emissions}
-use Rattle.mr_jobs.proofs.PassRows.{column_sums, means_count, product_sums}
+use Rattle.mr_jobs.proofs.PassRows.{column_ones, column_sums, means_count, product_sums, some_points}
 use Rattle.mr_jobs.specs.Passes.{pass_of}
 use Rattle.mr_numeric.specs.Sums.{IsColumnSum}
 use Rattle.mr_jobs.proofs.pca.ColumnsRounds.outcome.Goals as goal
@@ -17,14 +17,22 @@ pca_text-requires-clause-sums c =
     (subst (λ s. round_of nat_cmp rows.0 false sum_folded (pca_emissions grid s) ≡ Ok c.args.rows.now)
     (sym c.state.view_is ∙ ap pass_of c.in-Some.is) rows.1)
 
-pub column_means-requires : goal.column_means-requires
-column_means-requires c =
+pub column_means-requires-clause-one : goal.column_means-requires-clause-one
+column_means-requires-clause-one c =
     let rows = c.requires.rows in
     let grid = c.args.self.now.grid.now in
-    subst (λ n. All (IsColumnSum n) c.args.rows.now) (sym c.rows-points.ensures)
-    (column_sums rows.0 grid c.args.rows.now c.args.self.now.even
+    column_ones rows.0 grid c.args.rows.now c.args.self.now.even
     (subst (λ s. round_of nat_cmp rows.0 false sum_folded (pca_emissions grid s) ≡ Ok c.args.rows.now)
-    (sym c.state.view_is ∙ ap pass_of c.in-None.is) rows.1))
+    (sym c.state.view_is ∙ ap pass_of c.in-None.is) rows.1)
+
+pub column_means-requires-clause-some : goal.column_means-requires-clause-some
+column_means-requires-clause-some c = λ some.
+    let rows = c.requires.rows in
+    let grid = c.args.self.now.grid.now in
+    subst (λ n. 1 ≤ n) (sym c.rows-points.ensures)
+    (some_points rows.0 grid c.args.rows.now c.args.self.now.even
+    (subst (λ s. round_of nat_cmp rows.0 false sum_folded (pca_emissions grid s) ≡ Ok c.args.rows.now)
+    (sym c.state.view_is ∙ ap pass_of c.in-None.is) rows.1) some)
 
 pub returns-in_ok-column_means-in-None-clause-fits : goal.returns-in_ok-column_means-in-None-clause-fits
 returns-in_ok-column_means-in-None-clause-fits c =
@@ -36,5 +44,8 @@ returns-in_ok-column_means-in-None-clause-fits c =
           ∙ means_count rows.0 grid c.args.rows.now self.even self.few
           (subst (λ s. round_of nat_cmp rows.0 false sum_folded (pca_emissions grid s) ≡ Ok c.args.rows.now)
           (sym c.state.view_is ∙ ap pass_of c.in-None.is) rows.1),
-      means.ensures.small,
+      means.ensures.small (subst (λ n. All (IsColumnSum n) c.args.rows.now) (sym c.rows-points.ensures)
+          (column_sums rows.0 grid c.args.rows.now self.even
+          (subst (λ s. round_of nat_cmp rows.0 false sum_folded (pca_emissions grid s) ≡ Ok c.args.rows.now)
+          (sym c.state.view_is ∙ ap pass_of c.in-None.is) rows.1))),
     )
