@@ -1,5 +1,6 @@
 -- The line that begins at a boundary.
-use Rattle.std.proofs.Common.{◌≡◌, inl, inr, ℕ, ◌+◌, ◌-◌, ◌<◌, ◌≤◌, ◌==◌, ◌||◌, min, Bool, true, false, not, List, [], ◌∷◌, ◌++◌, length, take, drop, get_or, ◌∙◌, ap, arith, eq-eqb, append-nil}
+use Rattle.std.proofs.Common.{◌≡◌, inl, inr, ℕ, ◌+◌, ◌-◌, ◌<◌, ◌≤◌, ◌==◌, ◌||◌, min, Bool, true, false, not, List, [], ◌∷◌, ◌++◌, length}
+use Rattle.std.proofs.Common.{take, drop, get_or, ◌∙◌, ap, arith, eq-eqb, append-nil}
 use Rattle.std.specs.Prelude.{filter, flat_map, slice_range}
 use Rattle.std.specs.List.{prefix_len, range_with_len}
 use Rattle.std.proofs.lemmas.Bool.{cases_lt, ne_eqb, or_left, or_right, not-true, not-false}
@@ -11,7 +12,8 @@ use Rattle.mr_kernels.specs.Scan.{line_end_in}
 use Rattle.mr_text.proofs.Scans.{run_end_bound, run_passes, run_stops}
 use Rattle.mr_lines.specs.Ends.{is_line_end}
 
-module _ (bs : List ℕ) (at : ℕ) (below : at < length bs) (starts : is_line_boundary bs at ≡ true) (end : ℕ) (end_is : end ≡ line_end_in bs at) where
+module _ (bs : List ℕ) (at : ℕ) (below : at < length bs) (starts : is_line_boundary bs at ≡ true) (end : ℕ)
+    (end_is : end ≡ line_end_in bs at) where
   abbrev inner : ℕ → Bool
   inner b = not (b == 10)
 
@@ -32,7 +34,9 @@ module _ (bs : List ℕ) (at : ℕ) (below : at < length bs) (starts : is_line_b
 
   pub ends_here : is_line_end bs end ≡ true
   ends_here = elim (cases_lt end (length bs)) [
-    | inl before ↦ or_right (end == length bs) _ (not-false (get_or bs end 0 == 10) (ap (λ k. inner (get_or bs k 0)) end_is ∙ run_stops inner bs at (omega (arith, end_is, before))))
+    | inl before ↦ or_right (end == length bs)
+        _ (not-false (get_or bs end 0 == 10)
+        (ap (λ k. inner (get_or bs k 0)) end_is ∙ run_stops inner bs at (omega (arith, end_is, before))))
     | inr there ↦ or_left (end == length bs) _ (eq-eqb end (length bs) (omega (arith, there, inside)))
   ]
 
@@ -42,7 +46,8 @@ module _ (bs : List ℕ) (at : ℕ) (below : at < length bs) (starts : is_line_b
   none_begins : IsNowhere (begins_line bs) (at + 1) next
   none_begins k from upto =
       let some : (k == 0) ≡ false = ne_eqb k 0 (λ e. omega (arith, e, from)) in
-      let other : (get_or bs (k - 1) 0 == 10) ≡ false = not-true (get_or bs (k - 1) 0 == 10) (run_passes inner bs at (k - 1) (omega (arith, from)) (omega (arith, from, upto, end_is))) in
+      let other : (get_or bs (k - 1) 0 == 10) ≡ false =
+      not-true (get_or bs (k - 1) 0 == 10) (run_passes inner bs at (k - 1) (omega (arith, from)) (omega (arith, from, upto, end_is))) in
       go (k == 0) (get_or bs (k - 1) 0 == 10) some other
     where
       go : (z t : Bool) → z ≡ false → t ≡ false → (z || t) ≡ false
@@ -59,14 +64,19 @@ module _ (bs : List ℕ) (at : ℕ) (below : at < length bs) (starts : is_line_b
     | inl before ↦
         let there : next ≡ end + 1 = omega (arith, before) in
         let back : next - 1 ≡ end = omega (arith, there) in
-        or_left (begins_line bs next) (next == length bs) (or_right (next == 0) (get_or bs (next - 1) 0 == 10) (ap (λ k. get_or bs k 0 == 10) back ∙ not-false (get_or bs end 0 == 10) (ap (λ k. inner (get_or bs k 0)) end_is ∙ run_stops inner bs at (omega (arith, end_is, before)))))
+        or_left (begins_line bs next) (next == length bs)
+        (or_right (next == 0) (get_or bs (next - 1) 0 == 10)
+        (ap (λ k. get_or bs k 0 == 10) back
+        ∙ not-false (get_or bs end 0 == 10)
+        (ap (λ k. inner (get_or bs k 0)) end_is ∙ run_stops inner bs at (omega (arith, end_is, before)))))
     | inr past ↦ or_right (begins_line bs next) (next == length bs) (eq-eqb next (length bs) (omega (arith, past)))
   ]
 
   -- no line goes over a boundary
   pub next_within : (to : ℕ) → at < to → to ≤ length bs → is_line_boundary bs to ≡ true → next ≤ to
   next_within to more bound ends = elim (cases_lt to next) [
-    | inl before ↦ absurd (go (begins_line bs to) (to == length bs) (none_begins to (omega (arith, more)) before) (ne_eqb to (length bs) (λ e. omega (arith, e, before, next_inside))) ends)
+    | inl before ↦ absurd (go (begins_line bs to) (to == length bs) (none_begins to (omega (arith, more)) before)
+        (ne_eqb to (length bs) (λ e. omega (arith, e, before, next_inside))) ends)
     | inr not_before ↦ not_before
   ]
     where

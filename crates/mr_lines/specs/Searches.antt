@@ -5,7 +5,8 @@ use Rattle.bstr.specs.Find.{OccursAt}
 use Rattle.mr_items.specs.StringMatch.{stands_in}
 use Rattle.mr_lines.specs.declared.search.Search.{Search}
 
--- the pattern stands nowhere from a place on and before the next one, in a piece with this end; where the next one isn't past the end, it stands there
+-- the pattern stands nowhere from a place on and before the next one, in a piece with this end; where the next one isn't past the end, it
+-- stands there
 pub record IsNext (text pattern : List ℕ) (stop from next : ℕ) : Type 0 where
   pub before : (k : ℕ) → from ≤ k → k < next → k + length pattern ≤ stop → ¬ OccursAt text pattern k
   pub there : from ≤ next → next ≤ stop → OccursAt text pattern next

@@ -1,5 +1,7 @@
-ghost use Rattle.std.specs.Prelude.{◌≡◌, ◌≢◌, ◌≤◌, ◌<◌, ◌+◌, ◌++◌, ℕ, ℤ, List, All, length, negsuc, min, slice_index_or, slice_range, take, true, IfOk, OnOk, OnErr};
+ghost use Rattle.std.specs.Prelude.{◌≡◌, ◌≢◌, ◌≤◌, ◌<◌, ◌+◌, ◌++◌, ℕ, ℤ, List, All, length, negsuc, min, slice_index_or, slice_range, take};
+ghost use Rattle.std.specs.Prelude.{true, IfOk, OnOk, OnErr};
 ghost use Rattle.mr_defs.specs.Emission.{Emission};
+ghost use Rattle.mr_defs.specs.Folded.{limit};
 ghost use Rattle.mr_defs.specs.Tasks.{task_emissions};
 ghost use Rattle.mr_items.specs.Lines.{begins_line, is_line_boundary, line_at, line_places};
 ghost use Rattle.mr_container.specs.Block.{block_emissions};
@@ -54,10 +56,11 @@ pub(crate) trait LineJob {
         requires ends { is_line_end (text self.now) to ≡ true }
         requires line { line_at (text self.now) from ≡ slice_range (text self.now) from to }
         requires ready { ready self.now state.old stop from }
-        requires allowed { All (λ p. Self.Key.allowed p.0 × (p.1 ≢ negsuc 9223372036854775807)) block.old.items }
-        ensures ok { OnOk result (Sent L.stands out.old out.new (block_emissions block.old.items ++ emits self.now from) (block_emissions block.new.items)) }
+        requires allowed { All (λ p. Self.Key.allowed p.0 × (p.1 ≢ negsuc limit)) block.old.items }
+        ensures ok { OnOk result
+            (Sent L.stands out.old out.new (block_emissions block.old.items ++ emits self.now from) (block_emissions block.new.items)) }
         ensures err { OnErr result (SentSome L.stands out.old out.new (block_emissions block.old.items ++ emits self.now from)) }
-        ensures allowed { OnOk result (All (λ p. Self.Key.allowed p.0 × (p.1 ≢ negsuc 9223372036854775807)) block.new.items) }
+        ensures allowed { OnOk result (All (λ p. Self.Key.allowed p.0 × (p.1 ≢ negsuc limit)) block.new.items) }
         ensures ready { OnOk result (ready self.now state.new stop (min (to + 1) (length (text self.now)))) }
         ensures origin { L.same_origin out.old out.new };
 }
@@ -72,8 +75,12 @@ fn map_lines<K: Key, J: LineJob<Key = K>, L: Local<Key = K, Value = i64>>(
 ) -> Result<(), Memory>
     requires text { text.now ≡ J.text job.now }
     requires piece { IsPiece (is_line_boundary text.now) (length text.now) piece }
-    ensures ok { OnOk result ((es : List (Emission K ℤ)) → L.stands out.old es → L.stands out.new (es ++ task_emissions (J.emits job.now) (line_places text.now) piece)) }
-    ensures err { OnErr result ((es : List (Emission K ℤ)) → L.stands out.old es → (n : ℕ) × L.stands out.new (es ++ take n (task_emissions (J.emits job.now) (line_places text.now) piece))) }
+    ensures ok { OnOk result
+        ((es : List (Emission K ℤ)) → L.stands out.old es
+        → L.stands out.new (es ++ task_emissions (J.emits job.now) (line_places text.now) piece)) }
+    ensures err { OnErr result
+        ((es : List (Emission K ℤ)) → L.stands out.old es
+        → (n : ℕ) × L.stands out.new (es ++ take n (task_emissions (J.emits job.now) (line_places text.now) piece))) }
     ensures origin { L.same_origin out.old out.new }
 {
     let mut state = job.state(alloc, piece.start, piece.end)?;
@@ -119,8 +126,15 @@ pub(crate) fn map_task<K: Key, J: LineJob<Key = K>, L: Local<Key = K, Value = i6
 ) -> Result<(), Memory>
     requires text { J.text job.now ≡ lines.now.input.now }
     requires task { task < length lines.now.pieces.now }
-    ensures ok { OnOk result ((es : List (Emission K ℤ)) → L.stands out.old es → L.stands out.new (es ++ task_emissions (J.emits job.now) (line_places lines.now.input.now) (slice_index_or lines.now.pieces.now task (0, 0)))) }
-    ensures err { OnErr result ((es : List (Emission K ℤ)) → L.stands out.old es → (n : ℕ) × L.stands out.new (es ++ take n (task_emissions (J.emits job.now) (line_places lines.now.input.now) (slice_index_or lines.now.pieces.now task (0, 0))))) }
+    ensures ok { OnOk result
+        ((es : List (Emission K ℤ)) → L.stands out.old es
+        → L.stands out.new
+        (es ++ task_emissions (J.emits job.now) (line_places lines.now.input.now) (slice_index_or lines.now.pieces.now task (0, 0)))) }
+    ensures err { OnErr result
+        ((es : List (Emission K ℤ)) → L.stands out.old es
+        → (n : ℕ) × L.stands out.new
+        (es ++ take n
+        (task_emissions (J.emits job.now) (line_places lines.now.input.now) (slice_index_or lines.now.pieces.now task (0, 0))))) }
     ensures origin { L.same_origin out.old out.new }
 {
     let piece = lines.pieces.get(task);

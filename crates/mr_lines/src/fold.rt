@@ -1,7 +1,9 @@
-ghost use Rattle.std.specs.Prelude.{◌≡◌, ◌≢◌, ◌<◌, ◌≤◌, ◌∷◌, ◌++◌, [], ℕ, List, All, length, negsuc, slice_index_or, slice_range, take, IfOk, IfSome, OnOk, OnErr};
+ghost use Rattle.std.specs.Prelude.{◌≡◌, ◌≢◌, ◌<◌, ◌≤◌, ◌∷◌, ◌++◌, [], ℕ, List, All, length, negsuc, slice_index_or, slice_range, take};
+ghost use Rattle.std.specs.Prelude.{IfOk, IfSome, OnOk, OnErr};
 ghost use Rattle.std.specs.List.{flat_map, range_with_len};
 ghost use Rattle.std.specs.Option.{option_map_or};
 ghost use Rattle.mr_defs.specs.Emission.{Pair, Malformed};
+ghost use Rattle.mr_defs.specs.Folded.{limit};
 ghost use Rattle.mr_defs.specs.Tasks as tasks;
 ghost use Rattle.mr_items.specs.FoldLines.{bytes_key, fields_emit, fold_lines_emissions, fold_lines_emits, number_key};
 ghost use Rattle.mr_items.specs.Lines as items;
@@ -72,8 +74,10 @@ fn pair_of<'a, K: FieldKey<'a>>(
     requires some { 0 < count }
     requires number { count ≤ length edges.now }
     requires edges { take count edges.now ≡ run_edges items.is_field_byte (slice_range text.now from to) }
-    ensures same { IfOk result (λ r. (place : ℕ) → fields_emit K.of_field place (runs items.is_field_byte (slice_range text.now from to)) ≡ option_map_or (λ p. Pair p.0 p.1 ∷ []) r (Malformed place ∷ [])) }
-    ensures allowed { IfOk result (λ r. IfSome r (λ p. K.allowed p.0 × (p.1 ≢ negsuc 9223372036854775807))) }
+    ensures same { IfOk result
+        (λ r. (place : ℕ) → fields_emit K.of_field place (runs items.is_field_byte (slice_range text.now from to))
+        ≡ option_map_or (λ p. Pair p.0 p.1 ∷ []) r (Malformed place ∷ [])) }
+    ensures allowed { IfOk result (λ r. IfSome r (λ p. K.allowed p.0 × (p.1 ≢ negsuc limit))) }
 {
     if count != 4 {
         return Ok(None);
@@ -100,11 +104,16 @@ fn put<K: Key, L: Local<Key = K, Value = i64>>(
     block: &mut Vec<(K, i64)>,
     out: &mut L,
 ) -> Result<(), Memory>
-    requires pair { IfSome pair (λ p. K.allowed p.0 × (p.1 ≢ negsuc 9223372036854775807)) }
-    requires allowed { All (λ p. K.allowed p.0 × (p.1 ≢ negsuc 9223372036854775807)) block.old.items }
-    ensures ok { OnOk result (Sent L.stands out.old out.new (block_emissions block.old.items ++ option_map_or (λ p. Pair p.0 p.1 ∷ []) pair (Malformed place ∷ [])) (block_emissions block.new.items)) }
-    ensures err { OnErr result (SentSome L.stands out.old out.new (block_emissions block.old.items ++ option_map_or (λ p. Pair p.0 p.1 ∷ []) pair (Malformed place ∷ []))) }
-    ensures allowed { OnOk result (All (λ p. K.allowed p.0 × (p.1 ≢ negsuc 9223372036854775807)) block.new.items) }
+    requires pair { IfSome pair (λ p. K.allowed p.0 × (p.1 ≢ negsuc limit)) }
+    requires allowed { All (λ p. K.allowed p.0 × (p.1 ≢ negsuc limit)) block.old.items }
+    ensures ok { OnOk result
+        (Sent L.stands out.old out.new
+        (block_emissions block.old.items ++ option_map_or (λ p. Pair p.0 p.1 ∷ []) pair (Malformed place ∷ []))
+        (block_emissions block.new.items)) }
+    ensures err { OnErr result
+        (SentSome L.stands out.old out.new
+        (block_emissions block.old.items ++ option_map_or (λ p. Pair p.0 p.1 ∷ []) pair (Malformed place ∷ []))) }
+    ensures allowed { OnOk result (All (λ p. K.allowed p.0 × (p.1 ≢ negsuc limit)) block.new.items) }
     ensures origin { L.same_origin out.old out.new }
 {
     match pair {
@@ -132,10 +141,13 @@ fn emit_line<'a, K: FieldKey<'a>, L: Local<Key = K, Value = i64>>(
     requires order { from ≤ to }
     requires inside { to ≤ length text.now }
     requires line { items.line_at text.now from ≡ slice_range text.now from to }
-    requires allowed { All (λ p. K.allowed p.0 × (p.1 ≢ negsuc 9223372036854775807)) block.old.items }
-    ensures ok { OnOk result (Sent L.stands out.old out.new (block_emissions block.old.items ++ fold_lines_emits K.of_field text.now from) (block_emissions block.new.items)) }
-    ensures err { OnErr result (SentSome L.stands out.old out.new (block_emissions block.old.items ++ fold_lines_emits K.of_field text.now from)) }
-    ensures allowed { OnOk result (All (λ p. K.allowed p.0 × (p.1 ≢ negsuc 9223372036854775807)) block.new.items) }
+    requires allowed { All (λ p. K.allowed p.0 × (p.1 ≢ negsuc limit)) block.old.items }
+    ensures ok { OnOk result
+        (Sent L.stands out.old out.new (block_emissions block.old.items ++ fold_lines_emits K.of_field text.now from)
+        (block_emissions block.new.items)) }
+    ensures err { OnErr result
+        (SentSome L.stands out.old out.new (block_emissions block.old.items ++ fold_lines_emits K.of_field text.now from)) }
+    ensures allowed { OnOk result (All (λ p. K.allowed p.0 × (p.1 ≢ negsuc limit)) block.new.items) }
     ensures origin { L.same_origin out.old out.new }
 {
     let end = without_return(text, from, to);
@@ -147,8 +159,8 @@ fn emit_line<'a, K: FieldKey<'a>, L: Local<Key = K, Value = i64>>(
     put(pair, from as u64, block, out)
 }
 
-/// Folds the values of lines with byte keys: a line of two fields, of which the second is a number, is emitted as the pair of the two. A line without
-/// a field is passed over, and every other one is malformed at its first byte.
+/// Folds the values of lines with byte keys: a line of two fields, of which the second is a number, is emitted as the pair of the two. A
+/// line without a field is passed over, and every other one is malformed at its first byte.
 #[derive(Drop)]
 pub struct FoldBytes<'a> {
     lines: Lines<'a>,
@@ -159,8 +171,11 @@ impl<'a> FoldBytes<'a> {
     pub fn new(input: &'a [u8], pieces: &'a Pieces) -> FoldBytes<'a>
         requires { ArePieces Boundary.Line input.now pieces.now }
         ensures count { ⟦<FoldBytes<'a> as Mapper>⟧.task_count result ≡ length pieces.now }
-        ensures tasks { (t : ℕ) → ⟦<FoldBytes<'a> as Mapper>⟧.task_emissions result t ≡ tasks.task_emissions (fold_lines_emits bytes_key input.now) (items.line_places input.now) (slice_index_or pieces.now t (0, 0)) }
-        ensures whole { flat_map (⟦<FoldBytes<'a> as Mapper>⟧.task_emissions result) (range_with_len 0 (⟦<FoldBytes<'a> as Mapper>⟧.task_count result)) ≡ fold_lines_emissions bytes_key input.now }
+        ensures tasks { (t : ℕ) → ⟦<FoldBytes<'a> as Mapper>⟧.task_emissions result t
+            ≡ tasks.task_emissions (fold_lines_emits bytes_key input.now) (items.line_places input.now)
+            (slice_index_or pieces.now t (0, 0)) }
+        ensures whole { flat_map (⟦<FoldBytes<'a> as Mapper>⟧.task_emissions result)
+            (range_with_len 0 (⟦<FoldBytes<'a> as Mapper>⟧.task_count result)) ≡ fold_lines_emissions bytes_key input.now }
     {
         FoldBytes {
             lines: Lines::new(input, pieces),
@@ -205,7 +220,8 @@ impl<'a> Mapper for FoldBytes<'a> {
 
     ghost task_count = { λ m. length m.lines.pieces.now };
 
-    ghost task_emissions = { λ m t. tasks.task_emissions (fold_lines_emits bytes_key m.lines.input.now) (items.line_places m.lines.input.now) (slice_index_or m.lines.pieces.now t (0, 0)) };
+    ghost task_emissions = { λ m t. tasks.task_emissions (fold_lines_emits bytes_key m.lines.input.now)
+        (items.line_places m.lines.input.now) (slice_index_or m.lines.pieces.now t (0, 0)) };
 
     fn tasks(&self) -> u32 {
         self.lines.pieces.len()
@@ -232,8 +248,11 @@ impl<'a> FoldNumbers<'a> {
     pub fn new(input: &'a [u8], pieces: &'a Pieces) -> FoldNumbers<'a>
         requires { ArePieces Boundary.Line input.now pieces.now }
         ensures count { ⟦<FoldNumbers<'a> as Mapper>⟧.task_count result ≡ length pieces.now }
-        ensures tasks { (t : ℕ) → ⟦<FoldNumbers<'a> as Mapper>⟧.task_emissions result t ≡ tasks.task_emissions (fold_lines_emits number_key input.now) (items.line_places input.now) (slice_index_or pieces.now t (0, 0)) }
-        ensures whole { flat_map (⟦<FoldNumbers<'a> as Mapper>⟧.task_emissions result) (range_with_len 0 (⟦<FoldNumbers<'a> as Mapper>⟧.task_count result)) ≡ fold_lines_emissions number_key input.now }
+        ensures tasks { (t : ℕ) → ⟦<FoldNumbers<'a> as Mapper>⟧.task_emissions result t
+            ≡ tasks.task_emissions (fold_lines_emits number_key input.now) (items.line_places input.now)
+            (slice_index_or pieces.now t (0, 0)) }
+        ensures whole { flat_map (⟦<FoldNumbers<'a> as Mapper>⟧.task_emissions result)
+            (range_with_len 0 (⟦<FoldNumbers<'a> as Mapper>⟧.task_count result)) ≡ fold_lines_emissions number_key input.now }
     {
         FoldNumbers {
             lines: Lines::new(input, pieces),
@@ -278,7 +297,8 @@ impl<'a> Mapper for FoldNumbers<'a> {
 
     ghost task_count = { λ m. length m.lines.pieces.now };
 
-    ghost task_emissions = { λ m t. tasks.task_emissions (fold_lines_emits number_key m.lines.input.now) (items.line_places m.lines.input.now) (slice_index_or m.lines.pieces.now t (0, 0)) };
+    ghost task_emissions = { λ m t. tasks.task_emissions (fold_lines_emits number_key m.lines.input.now)
+        (items.line_places m.lines.input.now) (slice_index_or m.lines.pieces.now t (0, 0)) };
 
     fn tasks(&self) -> u32 {
         self.lines.pieces.len()

@@ -13,8 +13,8 @@ use mr_split::Pieces;
 use mr_text::{EDGES, emit_words};
 use std::alloc::Global;
 
-/// Finds the lines of each word: each word of a line, folded to small letters, is emitted with the offset of the line's first byte, once for
-/// each time that it stands there.
+/// Finds the lines of each word: each word of a line, folded to small letters, is emitted with the offset of the line's first byte, once
+/// for each time that it stands there.
 #[derive(Drop)]
 pub struct InvertedIndex<'a> {
     lines: Lines<'a>,
@@ -25,8 +25,10 @@ impl<'a> InvertedIndex<'a> {
     pub fn new(input: &'a [u8], pieces: &'a Pieces) -> InvertedIndex<'a>
         requires { ArePieces Boundary.Line input.now pieces.now }
         ensures count { ⟦<InvertedIndex<'a> as Mapper>⟧.task_count result ≡ length pieces.now }
-        ensures tasks { (t : ℕ) → ⟦<InvertedIndex<'a> as Mapper>⟧.task_emissions result t ≡ tasks.task_emissions (inverted_index_emits input.now) (line_places input.now) (slice_index_or pieces.now t (0, 0)) }
-        ensures whole { flat_map (⟦<InvertedIndex<'a> as Mapper>⟧.task_emissions result) (range_with_len 0 (⟦<InvertedIndex<'a> as Mapper>⟧.task_count result)) ≡ inverted_index_emissions input.now }
+        ensures tasks { (t : ℕ) → ⟦<InvertedIndex<'a> as Mapper>⟧.task_emissions result t
+            ≡ tasks.task_emissions (inverted_index_emits input.now) (line_places input.now) (slice_index_or pieces.now t (0, 0)) }
+        ensures whole { flat_map (⟦<InvertedIndex<'a> as Mapper>⟧.task_emissions result)
+            (range_with_len 0 (⟦<InvertedIndex<'a> as Mapper>⟧.task_count result)) ≡ inverted_index_emissions input.now }
     {
         InvertedIndex {
             lines: Lines::new(input, pieces),
@@ -80,7 +82,8 @@ impl<'a> Mapper for InvertedIndex<'a> {
 
     ghost task_count = { λ m. length m.lines.pieces.now };
 
-    ghost task_emissions = { λ m t. tasks.task_emissions (inverted_index_emits m.lines.input.now) (line_places m.lines.input.now) (slice_index_or m.lines.pieces.now t (0, 0)) };
+    ghost task_emissions = { λ m t. tasks.task_emissions (inverted_index_emits m.lines.input.now) (line_places m.lines.input.now)
+        (slice_index_or m.lines.pieces.now t (0, 0)) };
 
     fn tasks(&self) -> u32 {
         self.lines.pieces.len()

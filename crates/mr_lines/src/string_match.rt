@@ -1,5 +1,6 @@
 ghost use Rattle.std.specs.Prelude.{◌≡◌, ◌≢◌, ◌<◌, ◌≤◌, ◌++◌, ℕ, List, All, length, map, negsuc, slice_index_or, slice_range, IfOk, OnOk};
 ghost use Rattle.std.specs.List.{flat_map, range_with_len};
+ghost use Rattle.mr_defs.specs.Folded.{limit};
 ghost use Rattle.mr_defs.specs.Tasks as tasks;
 ghost use Rattle.mr_items.specs.Lines.{line_places};
 ghost use Rattle.mr_items.specs.StringMatch.{stands_in, string_match_emits, string_match_emissions};
@@ -15,7 +16,8 @@ use mr_container::{Local, Mapper};
 use mr_split::Pieces;
 use std::alloc::Global;
 
-/// Finds the lines in which patterns stand: a line emits the number of each pattern that stands somewhere in it, from 0, once and with the value 1.
+/// Finds the lines in which patterns stand: a line emits the number of each pattern that stands somewhere in it, from 0, once and with the
+/// value 1.
 #[derive(Drop)]
 pub struct StringMatch<'a> {
     lines: Lines<'a>,
@@ -27,8 +29,11 @@ impl<'a> StringMatch<'a> {
     pub fn new(input: &'a [u8], pieces: &'a Pieces, patterns: &'a Patterns) -> StringMatch<'a>
         requires { ArePieces Boundary.Line input.now pieces.now }
         ensures count { ⟦<StringMatch<'a> as Mapper>⟧.task_count result ≡ length pieces.now }
-        ensures tasks { (t : ℕ) → ⟦<StringMatch<'a> as Mapper>⟧.task_emissions result t ≡ tasks.task_emissions (string_match_emits patterns.now input.now) (line_places input.now) (slice_index_or pieces.now t (0, 0)) }
-        ensures whole { flat_map (⟦<StringMatch<'a> as Mapper>⟧.task_emissions result) (range_with_len 0 (⟦<StringMatch<'a> as Mapper>⟧.task_count result)) ≡ string_match_emissions patterns.now input.now }
+        ensures tasks { (t : ℕ) → ⟦<StringMatch<'a> as Mapper>⟧.task_emissions result t
+            ≡ tasks.task_emissions (string_match_emits patterns.now input.now) (line_places input.now)
+            (slice_index_or pieces.now t (0, 0)) }
+        ensures whole { flat_map (⟦<StringMatch<'a> as Mapper>⟧.task_emissions result)
+            (range_with_len 0 (⟦<StringMatch<'a> as Mapper>⟧.task_count result)) ≡ string_match_emissions patterns.now input.now }
     {
         StringMatch {
             lines: Lines::new(input, pieces),
@@ -72,11 +77,12 @@ fn push_standing(
     requires within { to ≤ stop }
     requires inside { stop ≤ length text.now }
     requires next { AreNext text.now stop from searches.old.items }
-    requires allowed { All (λ p. (p.0 ≤ 9223372036854775807) × (p.1 ≢ negsuc 9223372036854775807)) block.old.items }
+    requires allowed { All (λ p. (p.0 ≤ limit) × (p.1 ≢ negsuc limit)) block.old.items }
     ensures next { OnOk result (AreNext text.now stop from searches.new.items) }
     ensures finders { OnOk result (map (λ x. x.finder) searches.new.items ≡ map (λ x. x.finder) searches.old.items) }
-    ensures pairs { OnOk result (block.new.items ≡ block.old.items ++ standing (map (λ x. x.finder) searches.old.items) (slice_range text.now from to)) }
-    ensures allowed { OnOk result (All (λ p. (p.0 ≤ 9223372036854775807) × (p.1 ≢ negsuc 9223372036854775807)) block.new.items) }
+    ensures pairs { OnOk result
+        (block.new.items ≡ block.old.items ++ standing (map (λ x. x.finder) searches.old.items) (slice_range text.now from to)) }
+    ensures allowed { OnOk result (All (λ p. (p.0 ≤ limit) × (p.1 ≢ negsuc limit)) block.new.items) }
 {
     for number in 0..searches.len() {
         if stands(&mut searches[number], text, from, to, stop) {
@@ -124,7 +130,8 @@ impl<'a> Mapper for StringMatch<'a> {
 
     ghost task_count = { λ m. length m.lines.pieces.now };
 
-    ghost task_emissions = { λ m t. tasks.task_emissions (string_match_emits m.patterns.now m.lines.input.now) (line_places m.lines.input.now) (slice_index_or m.lines.pieces.now t (0, 0)) };
+    ghost task_emissions = { λ m t. tasks.task_emissions (string_match_emits m.patterns.now m.lines.input.now)
+        (line_places m.lines.input.now) (slice_index_or m.lines.pieces.now t (0, 0)) };
 
     fn tasks(&self) -> u32 {
         self.lines.pieces.len()

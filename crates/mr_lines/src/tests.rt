@@ -79,7 +79,7 @@ fn written<M: Mapper<Value = i64>>(alloc: Global, mapper: &M) -> Result<Text, Me
 #[test]
 fn emits_keyed_lines(rt: HostRuntime) -> Result<(), Fail> {
     let alloc = rt.alloc();
-    let table: [(&str, &str, &str); 9] = [
+    let table: [(&str, &str, &str); 10] = [
         ("a 5\nb -2\na -5\n", "a 5/b -2/a -5/", "!0/!4/!9/"),
         ("a 1\nb x\nc\n", "a 1/!4/!8/", "!0/!4/!8/"),
         ("7 1\r\n\r\n007 2", "7 1/007 2/", "7 1/7 2/"),
@@ -97,6 +97,11 @@ fn emits_keyed_lines(rt: HostRuntime) -> Result<(), Fail> {
         ),
         ("\u{dc} 1\r\r\n1\r 2\n", "!0/1\r 2/", "!0/!7/"),
         ("", "", ""),
+        (
+            "x 12345678\n1 -99999999\n2 123456789\n3 1234567a\n4 -\n5 /1\n",
+            "x 12345678/1 -99999999/2 123456789/!35/!46/!50/",
+            "!0/1 -99999999/2 123456789/!35/!46/!50/",
+        ),
     ];
     for (text, by_bytes, by_numbers) in table {
         for chunk in [1, 100] {

@@ -7,4 +7,6 @@ pub returns-in_err-emit_block-in-None-clause-err : goal.returns-in_err-emit_bloc
 returns-in_err-emit_block-in-None-clause-err g c =
     let e = err_from_is_err_and c.from_residual-in_err-emit_block-in-None.result c.from_residual-in_err-emit_block-in-None.ensures.1 in
     let waits = block_emissions c.args.block.now.items in
-    rw e.1 (some_more g.L.Local.stands c.args.out.now c.emit_block.new.self waits _ (sent_some g.L.Local.stands c.args.out.now c.args.out.now waits waits (sent_none g.L.Local.stands c.args.out.now waits) c.emit_block.new.self c.in_err-emit_block-in-None.ensures.err))
+    rw e.1 (some_more g.L.Local.stands c.args.out.now c.emit_block.new.self waits
+    _ (sent_some g.L.Local.stands c.args.out.now c.args.out.now waits waits
+    (sent_none g.L.Local.stands c.args.out.now waits) c.emit_block.new.self c.in_err-emit_block-in-None.ensures.err))

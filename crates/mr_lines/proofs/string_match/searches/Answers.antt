@@ -12,7 +12,13 @@ loop-number-preserved c =
     let added : Search = record { finder = c.new-finder.result; next = c.next_place-next.result } in
     let pushed = c.in_ok-push.ensures.items in
     record {
-      next = All-same (λ s. IsNext c.args.text.now s.finder c.args.stop c.args.from s.next) c.push.new.self.items (before ++ added ∷ []) pushed
-          (All-push (λ s. IsNext c.args.text.now s.finder c.args.stop c.args.from s.next) before added c.loop-number.invariant.next c.next_place-next.ensures.next);
-      finders = ap (map (λ s. s.finder)) pushed ∙ map-append (λ s. s.finder) before (added ∷ []) ∙ ap (λ l. l ++ c.new-finder.result ∷ []) c.loop-number.invariant.finders ∙ ap (λ l. take c.loop-number.number c.args.patterns.now ++ l ∷ []) (c.new-finder.ensures ∙ sym (get_or_from_slice_get c.args.patterns.now c.loop-number.number c.get.result.now [] c.get.ensures)) ∙ sym (take_more c.args.patterns.now c.loop-number.number [] (omega (arith, c.loop-number-test.true, c.len-number-end.ensures)));
+      next =
+          All-same (λ s. IsNext c.args.text.now s.finder c.args.stop c.args.from s.next) c.push.new.self.items (before ++ added ∷ []) pushed
+          (All-push (λ s. IsNext c.args.text.now s.finder c.args.stop c.args.from s.next) before added c.loop-number.invariant.next
+          c.next_place-next.ensures.next);
+      finders = ap (map (λ s. s.finder)) pushed ∙ map-append (λ s. s.finder) before (added ∷ [])
+          ∙ ap (λ l. l ++ c.new-finder.result ∷ []) c.loop-number.invariant.finders
+          ∙ ap (λ l. take c.loop-number.number c.args.patterns.now ++ l ∷ [])
+          (c.new-finder.ensures ∙ sym (get_or_from_slice_get c.args.patterns.now c.loop-number.number c.get.result.now [] c.get.ensures))
+          ∙ sym (take_more c.args.patterns.now c.loop-number.number [] (omega (arith, c.loop-number-test.true, c.len-number-end.ensures)));
     }
