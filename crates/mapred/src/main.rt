@@ -1,8 +1,8 @@
 //! The program `mapred`: it runs the command of its words over the files of the machine.
 //!
-//! The words are handed to `mr_top::run` with a shelf of files, the standard output and the standard error; the exit status is the code of the
-//! status that `run` answers. Nothing is decided here but what to do where the words can't be had: status 2 where one is no text, and 10 where
-//! there is no memory for them.
+//! The words are handed to `mr_top::run` with a shelf of files, the standard output and the standard error; the exit status is the code of
+//! the status that `run` answers. Nothing is decided here but what to do where the words can't be had: status 2 where one is no text, and
+//! 10 where there is no memory for them.
 #![tactic(auto)]
 
 ghost use Rattle.std.specs.Prelude.{◌≡◌, map, string_bytes, IfOk};

@@ -1,7 +1,8 @@
 -- What the values of a key fold to, by the kinds of combiner and reducer.
 use Rattle.std.specs.Prelude.{ℤ, List, Option, Some, None}
 use Rattle.mr_defs.specs.Emission.{Answer}
-use Rattle.mr_defs.specs.Folded.{sum_folded, min_folded, max_folded, one_folded, count_folded, and_folded, or_folded, xor_folded, minmax_folded, sumcount_folded, list_folded, median_folded, distinct_folded, once_folded}
+use Rattle.mr_defs.specs.Folded.{sum_folded, min_folded, max_folded, one_folded, count_folded, and_folded, or_folded, xor_folded}
+use Rattle.mr_defs.specs.Folded.{minmax_folded, sumcount_folded, list_folded, median_folded, distinct_folded, once_folded}
 use Rattle.mr_capacity.specs.declared.kinds.CombinerKind.{CombinerKind}
 use Rattle.mr_capacity.specs.declared.kinds.CombinerKind.TheVariants as combiner
 use Rattle.mr_capacity.specs.declared.kinds.ReducerKind.{ReducerKind}

@@ -1,5 +1,6 @@
-/// Calls a function at the const parameter that a capacity is: `at_capacity!(capacity, call<A, B>(x, y))` is `call::<A, B, 1024>(x, y)` where the
-/// capacity is 1024. The capacity is one of the table `CAPACITIES`; the arm for any other number is never reached, which the check proves.
+/// Calls a function at the const parameter that a capacity is: `at_capacity!(capacity, call<A, B>(x, y))` is `call::<A, B, 1024>(x, y)`
+/// where the capacity is 1024. The capacity is one of the table `CAPACITIES`; the arm for any other number is never reached, which the
+/// check proves.
 #[macro_export]
 macro_rules! at_capacity {
     ($capacity:expr, $call:ident<$($parameter:ty),*>($($argument:expr),*)) => {
@@ -35,8 +36,8 @@ macro_rules! called_at {
 
 /// Calls a function at the type of the combiner that a job has and at the reducer of plain combiners:
 /// `at_combiner!(combiner, { Sum, MinMax }, call[A, B](x, y))` is `call::<A, B, Both<Min, Max>, Plain>(x, y)` where the combiner is
-/// `CombinerKind::MinMax`. The names are all combiners that the table `PAIRINGS` has for the job; the arm for any other is never reached, which the
-/// check proves where the job's kind is known.
+/// `CombinerKind::MinMax`. The names are all combiners that the table `PAIRINGS` has for the job; the arm for any other is never reached,
+/// which the check proves where the job's kind is known.
 #[macro_export]
 macro_rules! at_combiner {
     ($combiner:expr, { $($name:ident),* }, $call:ident $types:tt $arguments:tt) => {
@@ -47,8 +48,8 @@ macro_rules! at_combiner {
     };
 }
 
-/// Calls a function at the combiner `Buffer` and the reducer that a job has beside it: `at_reducer!(reducer, { List, Distinct }, call[A](x, y))` is
-/// `call::<A, Buffer, List>(x, y)` where the reducer is `Some(ReducerKind::List)`. Names and the last arm are as in `at_combiner!`.
+/// Calls a function at the combiner `Buffer` and the reducer that a job has beside it: `at_reducer!(reducer, { List, Distinct }, call[A](x,
+/// y))` is `call::<A, Buffer, List>(x, y)` where the reducer is `Some(ReducerKind::List)`. Names and the last arm are as in `at_combiner!`.
 #[macro_export]
 macro_rules! at_reducer {
     ($reducer:expr, { $($name:ident),* }, $call:ident $types:tt $arguments:tt) => {
@@ -59,8 +60,8 @@ macro_rules! at_reducer {
     };
 }
 
-/// Calls one of some functions, by the container that a job has: `at_container!(container, { Hash => in_table, Array => in_array }, [C, R](x, y))` is
-/// `in_array::<C, R>(x, y)` where the container is `ContainerKind::Array`. Names and the last arm are as in `at_combiner!`.
+/// Calls one of some functions, by the container that a job has: `at_container!(container, { Hash => in_table, Array => in_array }, [C,
+/// R](x, y))` is `in_array::<C, R>(x, y)` where the container is `ContainerKind::Array`. Names and the last arm are as in `at_combiner!`.
 #[macro_export]
 macro_rules! at_container {
     ($container:expr, { $($name:ident => $call:ident),* }, $types:tt $arguments:tt) => {

@@ -27,8 +27,8 @@ pub enum KeyKind {
     Numbers,
 }
 
-/// How the values of one key are combined. `Once` is the rule of the array that all workers share: the value itself, of a key that is emitted
-/// at most once.
+/// How the values of one key are combined. `Once` is the rule of the array that all workers share: the value itself, of a key that is
+/// emitted at most once.
 #[derive(Clone, Copy, Debug, PartialEq, Eq)]
 pub enum CombinerKind {
     Sum,

@@ -1,8 +1,8 @@
 //! The kinds of job, container, key, combiner, reducer and queue that a job file names, and which of them go together.
 //!
-//! Names, capacities and pairings are tables of data (`JOB_NAMES`, `CAPACITIES`, `PAIRINGS`, ..), written out in `specs/` too; one rule over each
-//! table says what it means. What the combiners fold values to is a function of these kinds (`folded` in `specs/`), over the folds of
-//! `mr_defs`. The macros call a function at the types that a kind and a capacity stand for.
+//! Names, capacities and pairings are tables of data (`JOB_NAMES`, `CAPACITIES`, `PAIRINGS`, ..), written out in `specs/` too; one rule
+//! over each table says what it means. What the combiners fold values to is a function of these kinds (`folded` in `specs/`), over the
+//! folds of `mr_defs`. The macros call a function at the types that a kind and a capacity stand for.
 //!
 //! Its promise: `capacity_allowed` and `pairing_allowed` are true exactly for what the tables of `specs/` list, and names are as they say.
 #![tactic(auto)]

@@ -1,5 +1,6 @@
 ghost use Rattle.std.specs.Prelude.{◌≡◌};
-ghost use Rattle.mr_capacity.specs.Names.{entries, constant_entries, named, job_names, container_names, key_names, combiner_names, reducer_names, queue_names};
+ghost use Rattle.mr_capacity.specs.Names.{entries, constant_entries, named, job_names, container_names, key_names, combiner_names};
+ghost use Rattle.mr_capacity.specs.Names.{reducer_names, queue_names};
 
 use crate::kinds::{CombinerKind, ContainerKind, JobKind, KeyKind, QueueKind, ReducerKind};
 

@@ -1,5 +1,6 @@
 -- The passes come together in one seat.
-use Rattle.std.proofs.Common.{◌≡◌, ℕ, ◌+◌, ◌<◌, ◌≤◌, Bool, true, cond, nat_lt, List, [], ◌∷◌, ◌++◌, length, flat_map, slice_index_or, refl, sym, ap, ◌∙◌, arith, subst}
+use Rattle.std.proofs.Common.{◌≡◌, ℕ, ◌+◌, ◌<◌, ◌≤◌, Bool, true, cond, nat_lt, List, [], ◌∷◌, ◌++◌, length, flat_map, slice_index_or, refl}
+use Rattle.std.proofs.Common.{sym, ap, ◌∙◌, arith, subst}
 use mathlib.Core.Option.{some}
 use lib.ListN.{get_elem?}
 use Rattle.atomic_table.specs.declared.shared.Seat.{Seat}
@@ -27,9 +28,11 @@ pub record Gathers (c : Claims) (seat : Seat ℕ View) (left all : List ClaimPas
   pub given : (x : ℕ) → times x seat.me.0.given + times x (lists left) ≡ times x (lists all)
   pub passes : (i : ℕ) (d : ClaimPass) → i < length left → IsPassOf c (slice_index_or left i d)
 
-begins : (c : Claims) (left : List ClaimPass) (p : ClaimPass) → AreAll (length c.ranges) (IsPassOf c) number_of (left ++ p ∷ []) → HaveEnded has_ended (left ++ p ∷ []) → Gathers c p.seat left (left ++ p ∷ [])
+begins : (c : Claims) (left : List ClaimPass) (p : ClaimPass) → AreAll (length c.ranges) (IsPassOf c) number_of (left ++ p ∷ [])
+    → HaveEnded has_ended (left ++ p ∷ []) → Gathers c p.seat left (left ++ p ∷ [])
 begins c left p every ended =
-    let each : (i : ℕ) (d : ClaimPass) → i < length (left ++ p ∷ []) → IsPassOf c (slice_index_or (left ++ p ∷ []) i d) = λ i d lt. (every.1 i d (let e = every.0 in omega (arith, e, lt))).0 in
+    let each : (i : ℕ) (d : ClaimPass) → i < length (left ++ p ∷ []) → IsPassOf c (slice_index_or (left ++ p ∷ []) i d) =
+    λ i d lt. (every.1 i d (let e = every.0 in omega (arith, e, lt))).0 in
     let is = last_of (λ i. IsPassOf c) left p each in
     let end = last_of (λ i (u : ClaimPass). has_ended u ≡ true) left p ended in
     let n = length-push left p in
@@ -47,7 +50,8 @@ begins c left p every ended =
 
 goes_on : (c : Claims) (seat after : Seat ℕ View) (left all : List ClaimPass) (p : ClaimPass) → Gathers c seat (left ++ p ∷ []) all
     → after.table_id ≡ seat.table_id → after.me.1 ≡ []
-    → after.me.0 ≡ view seat.me.0.tasks seat.me.0.queues (seat.me.0.weight + p.seat.me.0.weight) (seat.me.0.given ++ p.seat.me.0.given) (seat.me.0.ends ++ p.seat.me.0.ends)
+    → after.me.0 ≡ view seat.me.0.tasks seat.me.0.queues (seat.me.0.weight + p.seat.me.0.weight) (seat.me.0.given ++ p.seat.me.0.given)
+    (seat.me.0.ends ++ p.seat.me.0.ends)
     → Gathers c after left all
 goes_on c seat after left all p g table free is =
     let mine = last_of (λ i. IsPassOf c) left p g.passes in
@@ -61,27 +65,35 @@ goes_on c seat after left all p g table free is =
       free = free;
       weight = omega (arith, w, gw, n, one);
       some_weight = omega (arith, w, gs);
-      seen = λ q lt. let s = g.seen q lt in let a = ap (λ (v : View). times q v.ends) is in let b = times-append q seat.me.0.ends p.seat.me.0.ends in omega (arith, s, a, b);
-      given = λ x. let s = g.given x in let a = ap (λ (v : View). times x v.given) is in let b = times-append x seat.me.0.given p.seat.me.0.given in let l = times-push given_to left p x in omega (arith, s, a, b, l);
+      seen = λ q lt. let s = g.seen q lt in let a = ap (λ (v : View). times q v.ends) is in
+          let b = times-append q seat.me.0.ends p.seat.me.0.ends in omega (arith, s, a, b);
+      given = λ x. let s = g.given x in let a = ap (λ (v : View). times x v.given) is in
+          let b = times-append x seat.me.0.given p.seat.me.0.given in let l = times-push given_to left p x in omega (arith, s, a, b, l);
       passes = before_of (λ i. IsPassOf c) left p g.passes;
     }
 
-pub begins_at : (c : Claims) (all left : List ClaimPass) (p : ClaimPass) → all ≡ left ++ p ∷ [] → AreAll (length c.ranges) (IsPassOf c) number_of all → HaveEnded has_ended all → Gathers c p.seat left all
+pub begins_at : (c : Claims) (all left : List ClaimPass) (p : ClaimPass) → all ≡ left ++ p ∷ []
+    → AreAll (length c.ranges) (IsPassOf c) number_of all → HaveEnded has_ended all → Gathers c p.seat left all
 begins_at c all left p is every ended = subst (Gathers c p.seat left) (sym is)
     (begins c left p (subst (AreAll (length c.ranges) (IsPassOf c) number_of) is every) (subst (HaveEnded has_ended) is ended))
 
-pub next_of : (c : Claims) (seat : Seat ℕ View) (now left all : List ClaimPass) (p : ClaimPass) → Gathers c seat now all → now ≡ left ++ p ∷ [] → IsPassOf c p
+pub next_of : (c : Claims) (seat : Seat ℕ View) (now left all : List ClaimPass) (p : ClaimPass) → Gathers c seat now all
+    → now ≡ left ++ p ∷ [] → IsPassOf c p
 next_of c seat now left all p g is = last_of (λ i. IsPassOf c) left p (subst (λ (l : List ClaimPass). Gathers c seat l all) is g).passes
 
-pub goes_on_at : (c : Claims) (seat after : Seat ℕ View) (now left all : List ClaimPass) (p : ClaimPass) → Gathers c seat now all → now ≡ left ++ p ∷ []
+pub goes_on_at : (c : Claims) (seat after : Seat ℕ View) (now left all : List ClaimPass) (p : ClaimPass) → Gathers c seat now all
+    → now ≡ left ++ p ∷ []
     → after.table_id ≡ seat.table_id → after.me.1 ≡ []
-    → after.me.0 ≡ view seat.me.0.tasks seat.me.0.queues (seat.me.0.weight + p.seat.me.0.weight) (seat.me.0.given ++ p.seat.me.0.given) (seat.me.0.ends ++ p.seat.me.0.ends)
+    → after.me.0 ≡ view seat.me.0.tasks seat.me.0.queues (seat.me.0.weight + p.seat.me.0.weight) (seat.me.0.given ++ p.seat.me.0.given)
+    (seat.me.0.ends ++ p.seat.me.0.ends)
     → Gathers c after left all
 goes_on_at c seat after now left all p g is = goes_on c seat after left all p (subst (λ (l : List ClaimPass). Gathers c seat l all) is g)
 
 -- none is left: each task was given once
-pub ends_at : (c : Claims) (seat : Seat ℕ View) (now all : List ClaimPass) → Gathers c seat now all → now ≡ [] → (words : List ℕ) (views : List View)
-    → IsLawful (total_of c.ranges) (length c.ranges) words views → get_elem? views seat.id ≡ some seat.me.0 → AreAllGiven (total_of c.ranges) given_to all
+pub ends_at : (c : Claims) (seat : Seat ℕ View) (now all : List ClaimPass) → Gathers c seat now all → now ≡ []
+    → (words : List ℕ) (views : List View)
+    → IsLawful (total_of c.ranges) (length c.ranges) words views → get_elem? views seat.id ≡ some seat.me.0
+    → AreAllGiven (total_of c.ranges) given_to all
 ends_at c seat now all g none words views held at =
     let g' = subst (λ (l : List ClaimPass). Gathers c seat l all) none g in
     let gw = g'.weight in

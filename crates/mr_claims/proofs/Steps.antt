@@ -1,5 +1,7 @@
 -- Each step of a pass keeps the rule.
-use Rattle.std.proofs.Common.{◌≡◌, ◌≢◌, ℕ, zero, suc, ◌+◌, ◌-◌, ◌*◌, ◌/◌, ◌%◌, ◌^◌, ◌<◌, ◌≤◌, ◌==◌, ◌⊎◌, ◌&&◌, cond, nat_lt, nat_le, List, [], ◌∷◌, ◌++◌, set, get_or, length, length-set, slice_index, refl, sym, ap, ◌∙◌, arith, subst, ⊎_elim, inl, inr}
+use Rattle.std.proofs.Common.{◌≡◌, ◌≢◌, ℕ, zero, suc, ◌+◌, ◌-◌, ◌*◌, ◌/◌, ◌%◌, ◌^◌, ◌<◌, ◌≤◌, ◌==◌, ◌⊎◌, ◌&&◌, cond, nat_lt, nat_le, List}
+use Rattle.std.proofs.Common.{[], ◌∷◌, ◌++◌, set, get_or, length, length-set, slice_index, refl, sym, ap, ◌∙◌, arith, subst, ⊎_elim, inl}
+use Rattle.std.proofs.Common.{inr}
 use Rattle.std.proofs.lemmas.Bool.Decides.{nat_tests}
 use Rattle.std.proofs.lemmas.List.{get_or-set_same, get_or-set_other}
 use Rattle.std.proofs.lemmas.List.Sums.{sum_by_push, sum_by-append}
@@ -8,6 +10,7 @@ use mathlib.Core.Option.{some, some-injective, some-ne-none}
 use mathlib.Core.Logic.{dite}
 use native.Mathlib.Decide.{dec_lt, dec_le, ℕ_discrete}
 use lib.ListN.{get_elem?}
+use Rattle.mr_defs.specs.Tasks.{most_tasks}
 use Rattle.mr_base.specs.Tasks.{times, start_of, IsApartBelow}
 use Rattle.mr_base.specs.Totals.{total, Each}
 use Rattle.mr_base.proofs.Times.{times-snoc, times-append}
@@ -50,7 +53,8 @@ none_inside a y b out =
     (λ no. grind (arith, nat_tests, no))
 
 -- no view has a task twice
-pub few : (t n : ℕ) (words : List ℕ) (views : List View) (id : ℕ) (v : View) → IsLawful t n words views → get_elem? views id ≡ some v → IsApartBelow t v.given
+pub few : (t n : ℕ) (words : List ℕ) (views : List View) (id : ℕ) (v : View) → IsLawful t n words views → get_elem? views id ≡ some v
+    → IsApartBelow t v.given
 few t n words views id v h at x =
     let m = total_member (λ (u : View). times x u.given) views id v at in
     dite (dec_lt x t)
@@ -59,13 +63,15 @@ few t n words views id v h at x =
     grind (arith, nat_tests, m, g, lt))
     (λ ge. let b = h.beyond x (omega (arith, ge)) in grind (arith, nat_tests, m, b, ge))
 
-ends_few : (t n : ℕ) (words : List ℕ) (views : List View) → IsLawful t n words views → (q : ℕ) → total (λ (v : View). times q v.ends) views ≤ n
+ends_few : (t n : ℕ) (words : List ℕ) (views : List View) → IsLawful t n words views → (q : ℕ)
+    → total (λ (v : View). times q v.ends) views ≤ n
 ends_few t n words views h q =
     let a = total_le (λ (v : View). times q v.ends) (λ (v : View). v.weight) views (λ i v e. (h.each i v e).1 q) in
     let b = h.weights in omega (arith, a, b)
 
 -- a next number passes the end by no more than there are passes
-pub next_near_end : (t n : ℕ) (words : List ℕ) (views : List View) → IsLawful t n words views → (q : ℕ) → q < n → next_of words q ≤ end_of t n q + 32
+pub next_near_end : (t n : ℕ) (words : List ℕ) (views : List View) → IsLawful t n words views → (q : ℕ) → q < n
+    → next_of words q ≤ end_of t n q + 32
 next_near_end t n words views h q lt =
     let w = h.next q lt in
     let e = ends_few t n words views h q in
@@ -75,7 +81,8 @@ next_near_end t n words views h q lt =
     (λ no. omega (arith, no))
 
 -- so it does not wrap
-no_wrap : (t n : ℕ) (words : List ℕ) (views : List View) → IsLawful t n words views → (q : ℕ) → q < n → (next_of words q + 1) % 2 ^ 64 ≡ next_of words q + 1
+no_wrap : (t n : ℕ) (words : List ℕ) (views : List View) → IsLawful t n words views → (q : ℕ) → q < n
+    → (next_of words q + 1) % 2 ^ 64 ≡ next_of words q + 1
 no_wrap t n words views h q lt =
     let near = next_near_end t n words views h q lt in
     let inside = start_below t n (q + 1) h.small.1 (omega (arith, lt)) in
@@ -87,17 +94,21 @@ other : (t n q r x y : ℕ) → 0 < n → q ≢ r → start_of t n q ≤ x → x
 other t n q r x y pos ne a b c d same =
     dite (dec_lt q r)
     (λ lt. apart t n q r x pos lt b (omega (arith, same, c)))
-    (λ no. apart t n r q y pos (let m : (q < r) ⊎ (r < q) = parts q r ne in ⊎_elim (λ k. absurd (no k)) (λ k. k) m) d (omega (arith, same, a)))
+    (λ no. apart t n r q y pos (let m : (q < r) ⊎ (r < q) = parts q r ne in ⊎_elim (λ k. absurd (no k)) (λ k. k) m) d
+    (omega (arith, same, a)))
   where
     parts : (a b : ℕ) → a ≢ b → (a < b) ⊎ (b < a)
     parts a b ne = dite (dec_lt a b) inl (λ no. dite (dec_lt b a) inr (λ more. absurd (ne (omega (arith, no, more)))))
 
-module _ (t n q id : ℕ) (v : View) (lt : q < n) (one : v.weight ≡ 1) (none : times q v.ends ≡ 0) (words : List ℕ) (views : List View) (h : IsLawful t n words views) (at : get_elem? views id ≡ some v) where
+module _ (t n q id : ℕ) (v : View) (lt : q < n) (one : v.weight ≡ 1) (none : times q v.ends ≡ 0) (words : List ℕ) (views : List View)
+    (h : IsLawful t n words views) (at : get_elem? views id ≡ some v) where
   room : word_of q < length words
   room = let l = h.small.3 in omega (arith, l, lt)
 
   -- a task is given
-  task_ok : next_of words q < end_of t n q → IsLawful t n (set words (word_of q) (next_of words q + 1)) (set views id (view v.tasks v.queues v.weight (v.given ++ next_of words q ∷ []) v.ends))
+  task_ok : next_of words q < end_of t n q
+      → IsLawful t n (set words (word_of q) (next_of words q + 1))
+      (set views id (view v.tasks v.queues v.weight (v.given ++ next_of words q ∷ []) v.ends))
   task_ok below =
       let m : ℕ = next_of words q in
       let after : List ℕ = set words (word_of q) (m + 1) in
@@ -115,7 +126,8 @@ module _ (t n q id : ℕ) (v : View) (lt : q < n) (one : v.weight ≡ 1) (none :
             let g = h.given r x rl a b in
             dite (ℕ_discrete r q)
             (λ same. let k : next_of after r ≡ m + 1 = subst (λ j. next_of after j ≡ m + 1) (sym same) here in
-            let g' : total (λ (u : View). times x u.given) views ≡ cond (nat_lt x m) 1 0 = subst (λ j. total (λ (u : View). times x u.given) views ≡ cond (nat_lt x (next_of words j)) 1 0) same g in
+            let g' : total (λ (u : View). times x u.given) views ≡ cond (nat_lt x m) 1 0 =
+            subst (λ j. total (λ (u : View). times x u.given) views ≡ cond (nat_lt x (next_of words j)) 1 0) same g in
             rw k (grind (arith, nat_tests, s, c, g')))
             (λ ne. let k = next_of-set_other words q r (m + 1) ne in
             let off = other t n q r m x h.small.1 (λ e. ne (sym e)) wq.0 below a b in
@@ -136,7 +148,9 @@ module _ (t n q id : ℕ) (v : View) (lt : q < n) (one : v.weight ≡ 1) (none :
             dite (ℕ_discrete r q)
             (λ same. let k : next_of after r ≡ m + 1 = subst (λ j. next_of after j ≡ m + 1) (sym same) here in
             let k' : next_of words r ≡ m = ap (next_of words) same in
-            let i : one_within a b m ≡ 1 = subst (λ j. one_within (start_of t n j) (end_of t n j) m ≡ 1) (sym same) (one_inside (start_of t n q) m (end_of t n q) wq.0 below) in
+            let i : one_within a b m
+            ≡ 1 = subst (λ j. one_within (start_of t n j) (end_of t n j) m ≡ 1) (sym same)
+            (one_inside (start_of t n q) m (end_of t n q) wq.0 below) in
             omega (arith, s, c, e, g, k, k', i))
             (λ ne. let k = next_of-set_other words q r (m + 1) ne in
             let i = none_inside a m b (λ from to. other t n q r m m h.small.1 (λ x. ne (sym x)) wq.0 below from to refl) in
@@ -144,9 +158,11 @@ module _ (t n q id : ℕ) (v : View) (lt : q < n) (one : v.weight ≡ 1) (none :
         next = λ r rl.
             let s = total_set (λ (u : View). times r u.ends) views id v w at in
             let g = h.next r rl in
-            let still : total (λ (u : View). times r u.ends) (set views id w) ≡ total (λ (u : View). times r u.ends) views = omega (arith, s) in
+            let still : total (λ (u : View). times r u.ends) (set views id w) ≡ total (λ (u : View). times r u.ends) views =
+            omega (arith, s) in
             dite (ℕ_discrete r q)
-            (λ same. subst (λ j. IsNext (start_of t n j) (end_of t n j) (next_of after j) (total (λ (u : View). times j u.ends) (set views id w))) (sym same)
+            (λ same. subst (λ j. IsNext (start_of t n j) (end_of t n j) (next_of after j)
+            (total (λ (u : View). times j u.ends) (set views id w))) (sym same)
             (let sq = total_set (λ (u : View). times q u.ends) views id v w at in
             let z = wq.1 (omega (arith, below)) in
             rw here (
@@ -158,7 +174,9 @@ module _ (t n q id : ℕ) (v : View) (lt : q < n) (one : v.weight ≡ 1) (none :
       }
 
   -- the end is seen
-  end_ok : end_of t n q ≤ next_of words q → IsLawful t n (set words (word_of q) (next_of words q + 1)) (set views id (view v.tasks v.queues v.weight v.given (v.ends ++ q ∷ [])))
+  end_ok : end_of t n q ≤ next_of words q
+      → IsLawful t n (set words (word_of q) (next_of words q + 1))
+      (set views id (view v.tasks v.queues v.weight v.given (v.ends ++ q ∷ [])))
   end_ok past =
       let m : ℕ = next_of words q in
       let after : List ℕ = set words (word_of q) (m + 1) in
@@ -183,7 +201,8 @@ module _ (t n q id : ℕ) (v : View) (lt : q < n) (one : v.weight ≡ 1) (none :
             let g = h.given r x rl a b in
             dite (ℕ_discrete r q)
             (λ same. let k : next_of after r ≡ m + 1 = subst (λ j. next_of after j ≡ m + 1) (sym same) here in
-            let g' : total (λ (u : View). times x u.given) views ≡ cond (nat_lt x m) 1 0 = subst (λ j. total (λ (u : View). times x u.given) views ≡ cond (nat_lt x (next_of words j)) 1 0) same g in
+            let g' : total (λ (u : View). times x u.given) views ≡ cond (nat_lt x m) 1 0 =
+            subst (λ j. total (λ (u : View). times x u.given) views ≡ cond (nat_lt x (next_of words j)) 1 0) same g in
             let b' : x < end_of t n q = subst (λ j. x < end_of t n j) same b in
             rw k (grind (arith, nat_tests, s, g', b', past)))
             (λ ne. let k = next_of-set_other words q r (m + 1) ne in rw k (omega (arith, s, g)));
@@ -209,7 +228,8 @@ module _ (t n q id : ℕ) (v : View) (lt : q < n) (one : v.weight ≡ 1) (none :
             let c = times-snoc r v.ends q in
             let g = h.next r rl in
             dite (ℕ_discrete r q)
-            (λ same. subst (λ j. IsNext (start_of t n j) (end_of t n j) (next_of after j) (total (λ (u : View). times j u.ends) (set views id w))) (sym same)
+            (λ same. subst (λ j. IsNext (start_of t n j) (end_of t n j) (next_of after j)
+            (total (λ (u : View). times j u.ends) (set views id w))) (sym same)
             (let sq = total_set (λ (u : View). times q u.ends) views id v w at in
             let is = wq.2 past in
             rw here (
@@ -217,11 +237,13 @@ module _ (t n q id : ℕ) (v : View) (lt : q < n) (one : v.weight ≡ 1) (none :
               (λ le. absurd (omega (arith, le, past))),
               λ ge. omega (arith, sq, cq, is, none),
             )))
-            (λ ne. let still : total (λ (u : View). times r u.ends) (set views id w) ≡ total (λ (u : View). times r u.ends) views = grind (arith, nat_tests, s, c, ne) in
+            (λ ne. let still : total (λ (u : View). times r u.ends) (set views id w)
+            ≡ total (λ (u : View). times r u.ends) views = grind (arith, nat_tests, s, c, ne) in
             rw (next_of-set_other words q r (m + 1) ne, still) g);
       }
 
-  pub claim_ok : (w : View) × IsLawful t n (set words (word_of q) ((next_of words q + 1) % 2 ^ 64)) (set views id w) × Claimed q v (next_of words q) w
+  pub claim_ok : (w : View) × IsLawful t n (set words (word_of q) ((next_of words q + 1) % 2 ^ 64)) (set views id w)
+      × Claimed q v (next_of words q) w
   claim_ok =
       let m : ℕ = next_of words q in
       let after : List ℕ = set words (word_of q) (m + 1) in
@@ -257,7 +279,8 @@ kept t n words views after h each weights given counts ends = record {
   next = λ q lt. rw (ends q) (h.next q lt);
 }
 
-pub cut_ok : (t n id : ℕ) (v : View) → 2 ≤ v.weight → v.given ≡ [] → v.ends ≡ [] → (words : List ℕ) (views : List View) → IsLawful t n words views → get_elem? views id ≡ some v
+pub cut_ok : (t n id : ℕ) (v : View) → 2 ≤ v.weight → v.given ≡ [] → v.ends ≡ [] → (words : List ℕ) (views : List View)
+    → IsLawful t n words views → get_elem? views id ≡ some v
     → IsLawful t n words (set views id (view v.tasks v.queues (v.weight - 1) v.given v.ends) ++ view v.tasks v.queues 1 [] [] ∷ [])
 cut_ok t n id v two given ends words views h at =
     let left : View = view v.tasks v.queues (v.weight - 1) v.given v.ends in
@@ -272,16 +295,23 @@ cut_ok t n id v two given ends words views h at =
     (λ a b. total_split (λ (u : View). within a b u.given) views id v left right at (omega arith))
     (λ q. total_split (λ (u : View). times q u.ends) views id v left right at (omega arith))
 
-pub join_ok : (t n id : ℕ) (v : View) (other : ℕ) (w : View) → 0 < v.weight → (words : List ℕ) (views : List View) → IsLawful t n words views → get_elem? views id ≡ some v
-    → ¬ (other ≡ id) → get_elem? (set views id (view v.tasks v.queues (v.weight + w.weight) (v.given ++ w.given) (v.ends ++ w.ends))) other ≡ some w
-    → IsLawful t n words (set (set views id (view v.tasks v.queues (v.weight + w.weight) (v.given ++ w.given) (v.ends ++ w.ends))) other (view 0 0 0 [] []))
+pub join_ok : (t n id : ℕ) (v : View) (other : ℕ) (w : View) → 0 < v.weight → (words : List ℕ) (views : List View)
+    → IsLawful t n words views → get_elem? views id ≡ some v
+    → ¬ (other ≡ id)
+    → get_elem? (set views id (view v.tasks v.queues (v.weight + w.weight) (v.given ++ w.given) (v.ends ++ w.ends))) other ≡ some w
+    → IsLawful t n words
+    (set (set views id (view v.tasks v.queues (v.weight + w.weight) (v.given ++ w.given) (v.ends ++ w.ends))) other (view 0 0 0 [] []))
 join_ok t n id v other w some_weight words views h at ne at' =
     let both : View = view v.tasks v.queues (v.weight + w.weight) (v.given ++ w.given) (v.ends ++ w.ends) in
     let spent : View = view 0 0 0 [] [] in
     let was = at_other views id other both w ne at' in
     let mine = h.each id v at in
     let theirs = h.each other w was in
-    let b : IsView t n both = ((λ some. mine.0 some_weight), (λ q. let e = times-append q v.ends w.ends in let x = mine.1 q in let y = theirs.1 q in omega (arith, e, x, y)), λ z. absurd (omega (arith, z, some_weight))) in
+    let b : IsView t n both = (
+      (λ some. mine.0 some_weight),
+      (λ q. let e = times-append q v.ends w.ends in let x = mine.1 q in let y = theirs.1 q in omega (arith, e, x, y)),
+      λ z. absurd (omega (arith, z, some_weight)),
+    ) in
     let s : IsView t n spent = ((λ some. absurd (omega (arith, some))), (λ q. omega arith), λ z. refl) in
     kept t n words views (set (set views id both) other spent) h
     (each_set (IsView t n) (set views id both) other spent s (each_set (IsView t n) views id both b h.each))
@@ -291,10 +321,12 @@ join_ok t n id v other w some_weight words views h at ne at' =
     (λ q. total_join (λ (u : View). times q u.ends) views id v other w both spent at at' (times-append q v.ends w.ends) refl)
 
 -- who has the whole weight and has seen each end has each task once
-pub whole_ok : (t n id : ℕ) (v : View) (words : List ℕ) (views : List View) → IsLawful t n words views → get_elem? views id ≡ some v → v.weight ≡ n
+pub whole_ok : (t n id : ℕ) (v : View) (words : List ℕ) (views : List View) → IsLawful t n words views → get_elem? views id ≡ some v
+    → v.weight ≡ n
     → ((q : ℕ) → q < n → 1 ≤ times q v.ends) → (x : ℕ) → times x v.given ≡ cond (nat_lt x t) 1 0
 whole_ok t n id v words views h at all seen x =
-    let whole : total (λ (u : View). times x u.given) views ≡ times x v.given = total_whole (λ (u : View). times x u.given) (λ (u : View). u.weight) views id v at (h.weights ∙ sym all)
+    let whole : total (λ (u : View). times x u.given) views ≡ times x v.given =
+    total_whole (λ (u : View). times x u.given) (λ (u : View). u.weight) views id v at (h.weights ∙ sym all)
     (λ i u e z. ap (times x) ((h.each i u e).2 z)) in
     dite (dec_lt x t)
     (λ lt. let o = locate t n x h.small.1 lt in
@@ -302,13 +334,16 @@ whole_ok t n id v words views h at all seen x =
     let w = h.next o.0 o.1 in
     let s = seen o.0 o.1 in
     let m = total_member (λ (u : View). times o.0 u.ends) views id v at in
-    let past : end_of t n o.0 ≤ next_of words o.0 = dite (dec_lt (next_of words o.0) (end_of t n o.0)) (λ under. absurd (let z = w.1 (omega (arith, under)) in omega (arith, z, m, s))) (λ no. omega (arith, no)) in
+    let past : end_of t n o.0
+    ≤ next_of words o.0 = dite (dec_lt (next_of words o.0) (end_of t n o.0))
+    (λ under. absurd (let z = w.1 (omega (arith, under)) in omega (arith, z, m, s))) (λ no. omega (arith, no)) in
     let far = o.3 in
     grind (arith, nat_tests, g, whole, lt, past, far))
     (λ ge. let b = h.beyond x (omega (arith, ge)) in grind (arith, nat_tests, whole, b, ge))
 
 -- at the opening each next number is its queue's start, and one view has the whole weight
-pub begins : (t n : ℕ) (words : List ℕ) → t ≤ 1048576 → 0 < n → n ≤ 32 → length words ≡ n * 8 → ((q : ℕ) → q < n → next_of words q ≡ start_of t n q)
+pub begins : (t n : ℕ) (words : List ℕ) → t ≤ most_tasks → 0 < n → n ≤ 32 → length words ≡ n * 8
+    → ((q : ℕ) → q < n → next_of words q ≡ start_of t n q)
     → IsLawful t n words (view t n n [] [] ∷ [])
 begins t n words st pos sn len at = record {
   small = (st, pos, sn, len);

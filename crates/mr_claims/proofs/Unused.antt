@@ -1,5 +1,6 @@
 -- The passes are cut off one seat.
-use Rattle.std.proofs.Common.{◌≡◌, ℕ, zero, suc, ◌+◌, ◌-◌, ◌<◌, ◌≤◌, Bool, true, false, true≢false, cond, List, [], ◌∷◌, ◌++◌, replicate, length, slice_index_or, refl, sym, ap, ◌∙◌, arith, subst}
+use Rattle.std.proofs.Common.{◌≡◌, ℕ, zero, suc, ◌+◌, ◌-◌, ◌<◌, ◌≤◌, Bool, true, false, true≢false, cond, List, [], ◌∷◌, ◌++◌, replicate}
+use Rattle.std.proofs.Common.{length, slice_index_or, refl, sym, ap, ◌∙◌, arith, subst}
 use Rattle.atomic_table.specs.declared.shared.Seat.{Seat}
 use Rattle.mr_base.specs.Tasks.{times, total_of}
 use Rattle.mr_base.proofs.Passes.{length-push, each_push}
@@ -43,9 +44,11 @@ unused_is c seat number p table free is lt new =
     )
 
 -- one more is cut off
-pub cut_one : (c : Claims) (seat after right : Seat ℕ View) (number : ℕ) (passes : List ClaimPass) (p : ClaimPass) → Cutting c seat number passes → number + 1 < length c.ranges
+pub cut_one : (c : Claims) (seat after right : Seat ℕ View) (number : ℕ) (passes : List ClaimPass) (p : ClaimPass)
+    → Cutting c seat number passes → number + 1 < length c.ranges
     → (after.table_id ≡ seat.table_id) × (after.me.1 ≡ []) × (right.table_id ≡ seat.table_id) × (right.me.1 ≡ [])
-    → after.me.0 ≡ view seat.me.0.tasks seat.me.0.queues (seat.me.0.weight - 1) seat.me.0.given seat.me.0.ends → right.me.0 ≡ view seat.me.0.tasks seat.me.0.queues 1 [] []
+    → after.me.0 ≡ view seat.me.0.tasks seat.me.0.queues (seat.me.0.weight - 1) seat.me.0.given seat.me.0.ends
+    → right.me.0 ≡ view seat.me.0.tasks seat.me.0.queues 1 [] []
     → IsNew right number p → Cutting c after (number + 1) (passes ++ p ∷ [])
 cut_one c seat after right number passes p was lt same left cut new =
     let v = was.view_is in
@@ -58,19 +61,23 @@ cut_one c seat after right number passes p was lt same left cut new =
           ∙ ap (λ w. view (total_of c.ranges) (length c.ranges) w [] []) (omega arith);
       len = omega (arith, n, len);
       each = each_push (IsUnused c) number passes p len was.each
-          (unused_is c right number p (same.2 ∙ was.table) same.3 (cut ∙ ap (λ (u : View). view u.tasks u.queues 1 [] []) v) (omega (arith, lt)) new);
+          (unused_is c right number p (same.2 ∙ was.table) same.3 (cut ∙ ap (λ (u : View). view u.tasks u.queues 1 [] []) v)
+          (omega (arith, lt)) new);
     }
 
 -- the seat itself goes to the last
-pub all_cut : (c : Claims) (seat : Seat ℕ View) (number : ℕ) (passes : List ClaimPass) (p : ClaimPass) → Cutting c seat number passes → number + 1 ≡ length c.ranges → IsNew seat number p
-    → (length (passes ++ p ∷ []) ≡ length c.ranges) × ((i : ℕ) (d : ClaimPass) → i < length c.ranges → IsUnused c i (slice_index_or (passes ++ p ∷ []) i d))
+pub all_cut : (c : Claims) (seat : Seat ℕ View) (number : ℕ) (passes : List ClaimPass) (p : ClaimPass) → Cutting c seat number passes
+    → number + 1 ≡ length c.ranges → IsNew seat number p
+    → (length (passes ++ p ∷ []) ≡ length c.ranges)
+    × ((i : ℕ) (d : ClaimPass) → i < length c.ranges → IsUnused c i (slice_index_or (passes ++ p ∷ []) i d))
 all_cut c seat number passes p was last new =
     let n = length-push passes p in
     let len = was.len in
     let one : length c.ranges - number ≡ 1 = omega (arith, last) in (
       omega (arith, n, len, last),
       λ i d lt. each_push (IsUnused c) number passes p len was.each
-          (unused_is c seat number p was.table was.free (was.view_is ∙ ap (λ w. view (total_of c.ranges) (length c.ranges) w [] []) one) (omega (arith, last)) new) i d (omega (arith, lt, last)),
+          (unused_is c seat number p was.table was.free (was.view_is ∙ ap (λ w. view (total_of c.ranges) (length c.ranges) w [] []) one)
+          (omega (arith, last)) new) i d (omega (arith, lt, last)),
     )
 
 pub falses : (n q : ℕ) → slice_index_or (replicate n false) q false ≡ false

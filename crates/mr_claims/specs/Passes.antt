@@ -17,7 +17,8 @@ has_ended p = p.ended
 
 -- it has this seat and number, and has not looked at any queue
 abbrev pub IsNew : Seat ℕ View → ℕ → ClaimPass → Type 0
-IsNew seat number p = (p.seat ≡ seat) × (p.number ≡ number) × (p.ended ≡ false) × (length p.seen ≡ 32) × ((q : ℕ) → slice_index_or p.seen q false ≡ false)
+IsNew seat number p =
+    (p.seat ≡ seat) × (p.number ≡ number) × (p.ended ≡ false) × (length p.seen ≡ 32) × ((q : ℕ) → slice_index_or p.seen q false ≡ false)
 
 -- a claim of this pass found queue q at its end
 abbrev pub HasSeenEnd : ClaimPass → ℕ → Type 0

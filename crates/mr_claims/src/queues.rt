@@ -1,4 +1,5 @@
-ghost use Rattle.std.specs.Prelude.{◌≡◌, ◌<◌, ◌≤◌, ◌+◌, ◌-◌, ◌*◌, ◌/◌, [], ◌∷◌, ◌++◌, ℕ, true, false, length, IfOk, IfSome, IfNone, IsNone, slice_index, slice_index_or};
+ghost use Rattle.std.specs.Prelude.{◌≡◌, ◌<◌, ◌≤◌, ◌+◌, ◌-◌, ◌*◌, ◌/◌, [], ◌∷◌, ◌++◌, ℕ, true, false, length, IfOk, IfSome, IfNone, IsNone};
+ghost use Rattle.std.specs.Prelude.{slice_index, slice_index_or};
 ghost use Rattle.std.specs.List.Sorted.{IsPermutation};
 ghost use Rattle.mr_base.specs.Tasks.{total_of, start_of, AreAll, AreAllGiven, HaveEnded};
 ghost use Rattle.mr_claims.specs.Passes.{IsPassOf, IsNew, HasSeenEnd, number_of, given_to, has_ended, queue_after};
@@ -25,7 +26,8 @@ fn next_queue(queues: u32, number: u32, step: u32) -> u32
 // The words at the opening: where each queue begins. Of each eight one is used.
 fn opening_words(alloc: Global, ranges: &Ranges) -> Result<Vec<u64>, Memory>
     ensures len { IfOk result (λ v. length v.items ≡ length ranges.now * 8) }
-    ensures starts { IfOk result (λ v. (k : ℕ) → k < length ranges.now * 8 → slice_index v.items k ≡ start_of (total_of ranges.now) (length ranges.now) (k / 8)) }
+    ensures starts { IfOk result
+        (λ v. (k : ℕ) → k < length ranges.now * 8 → slice_index v.items k ≡ start_of (total_of ranges.now) (length ranges.now) (k / 8)) }
 {
     let count = ranges.queues() * 8;
     let mut words = Vec::with_capacity(alloc, count as usize)?;
@@ -104,12 +106,14 @@ impl TaskQueues for Claims {
         Ok((claims, passes))
     }
 
-    /// Looks at the pass's own queue and then at the others, round their number, but at none that the pass has seen at its end. None where it
-    /// has seen every queue there.
+    /// Looks at the pass's own queue and then at the others, round their number, but at none that the pass has seen at its end. None where
+    /// it has seen every queue there.
     fn take(&self, pass: &mut ClaimPass) -> Option<u32>
         requires { IsPassOf self.now pass.old }
         ensures same { IsPassOf self.now pass.new × (number_of pass.new ≡ number_of pass.old) }
-        ensures some { IfSome result (λ t. (t < total_of self.now.ranges) × IsPermutation (given_to pass.old ++ t ∷ []) (given_to pass.new) × (has_ended pass.new ≡ has_ended pass.old)) }
+        ensures some { IfSome result
+            (λ t. (t < total_of self.now.ranges) × IsPermutation (given_to pass.old ++ t ∷ []) (given_to pass.new)
+            × (has_ended pass.new ≡ has_ended pass.old)) }
         ensures none { IfNone result ((given_to pass.new ≡ given_to pass.old) × (has_ended pass.new ≡ true)) }
         ensures later { has_ended pass.old ≡ true → IsNone result }
         ensures every_end { IfNone result ((q : ℕ) → q < length self.now.ranges → HasSeenEnd pass.new q) }

@@ -29,7 +29,8 @@ pub(crate) fn cut_off(words: &Words, seat: &mut Claimant) -> Claimant
     requires seat { (seat.old.table_id ≡ words.now.table_id) × (seat.old.me.1 ≡ []) × (0 < words.now.table_id.words) }
     requires weight { 2 ≤ seat.old.me.0.weight }
     requires unused { (seat.old.me.0.given ≡ []) × (seat.old.me.0.ends ≡ []) }
-    ensures same { (seat.new.table_id ≡ seat.old.table_id) × (seat.new.me.1 ≡ []) × (result.table_id ≡ seat.old.table_id) × (result.me.1 ≡ []) }
+    ensures same { (seat.new.table_id ≡ seat.old.table_id) × (seat.new.me.1 ≡ []) × (result.table_id ≡ seat.old.table_id)
+        × (result.me.1 ≡ []) }
     ensures left { let v = seat.old.me.0 in seat.new.me.0 ≡ view v.tasks v.queues (v.weight - 1) v.given v.ends }
     ensures right { let v = seat.old.me.0 in result.me.0 ≡ view v.tasks v.queues 1 [] [] }
 {
@@ -38,7 +39,8 @@ pub(crate) fn cut_off(words: &Words, seat: &mut Claimant) -> Claimant
 
 // Takes in what another seat has.
 pub(crate) fn join(words: &Words, seat: &mut Claimant, other: Claimant)
-    requires seat { (seat.old.table_id ≡ words.now.table_id) × (seat.old.me.1 ≡ []) × (0 < words.now.table_id.words) × (0 < seat.old.me.0.weight) }
+    requires seat { (seat.old.table_id ≡ words.now.table_id) × (seat.old.me.1 ≡ []) × (0 < words.now.table_id.words)
+        × (0 < seat.old.me.0.weight) }
     requires other { (other.table_id ≡ words.now.table_id) × (other.me.1 ≡ []) }
     ensures same { (seat.new.table_id ≡ seat.old.table_id) × (seat.new.me.1 ≡ []) }
     ensures both { let v = seat.old.me.0 in let w = other.me.0 in

@@ -1,5 +1,6 @@
 -- The number of some digits, read from the front, where it is at most this.
-use Rattle.std.proofs.Common.{◌≡◌, ℕ, ◌+◌, ◌-◌, ◌*◌, ◌<◌, ◌≤◌, Bool, true, false, ◌&&◌, cond, true≢false, if◌then◌else◌, List, [], ◌∷◌, length, nat_le, nat_lt, Option, Some, None, refl, sym, ap, ◌∙◌, arith, get_or, drop}
+use Rattle.std.proofs.Common.{◌≡◌, ℕ, ◌+◌, ◌-◌, ◌*◌, ◌<◌, ◌≤◌, Bool, true, false, ◌&&◌, cond, true≢false, if◌then◌else◌, List, [], ◌∷◌}
+use Rattle.std.proofs.Common.{length, nat_le, nat_lt, Option, Some, None, refl, sym, ap, ◌∙◌, arith, get_or, drop}
 use Rattle.std.specs.List.{list_all}
 use Rattle.std.specs.Char.{is_ascii_digit, digit_value}
 use Rattle.std.specs.Str.Parse.{digits_value, digits_value_after}

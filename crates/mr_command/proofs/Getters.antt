@@ -1,5 +1,6 @@
 -- What the getters give, as rows.
-use Rattle.std.proofs.Common.{Bool, refl, true, false, cond, List, [], ◌∷◌, ◌≡◌, ◌∙◌, Some, None, Option, option_map, map, sym, ap, bytes_eq}
+use Rattle.std.proofs.Common.{Bool, refl, true, false, cond, List, [], ◌∷◌, ◌≡◌, ◌∙◌, Some, None, Option, option_map, map, sym, ap}
+use Rattle.std.proofs.Common.{bytes_eq}
 use Rattle.std.specs.Prelude.{find, option_and_then, slice_get}
 use Rattle.std.specs.Borrow.{Bor}
 use Rattle.clap.specs.declared.parser.matches.Found.{Found}

@@ -17,14 +17,17 @@ abbrev pub job_rule : Rule
 job_rule = record (new_rule (codes "JOB")) { required = true; action = Some Set }
 
 abbrev pub input_rule : Rule
-input_rule = record (new_rule (codes "INPUT")) { action = Some Append; range = Some (record { start_inclusive = 0; end_inclusive = usize_max }) }
+input_rule =
+    record (new_rule (codes "INPUT")) { action = Some Append; range = Some (record { start_inclusive = 0; end_inclusive = usize_max }) }
 
 -- no help and no version
 abbrev pub plain_app : App
 plain_app = record { top = record (new_shape (codes "mapred")) { disable_help_flag = true; disable_version_flag = true }; subs = [] }
 
 abbrev pub mapred_app : App
-mapred_app = with_rule (with_rule (with_rule (with_rule (with_rule plain_app (option_rule (codes "workers"))) (option_rule (codes "mode"))) (flag_rule (codes "report"))) job_rule) input_rule
+mapred_app = with_rule (with_rule
+    (with_rule (with_rule (with_rule plain_app (option_rule (codes "workers"))) (option_rule (codes "mode"))) (flag_rule (codes "report")))
+    job_rule) input_rule
 
 -- clap accepts the words; and what it reads of them
 unfoldable pub is_accepted : List Text → Bool

@@ -22,8 +22,8 @@ pub enum Mode {
 #[derive(Clone, Copy, Debug, PartialEq, Eq)]
 pub struct Usage;
 
-/// A command: from 1 to 32 workers, a mode, whether a report is asked for, the name of the job file and the names of the inputs, which in the
-/// mode `generate` are the seed and the count.
+/// A command: from 1 to 32 workers, a mode, whether a report is asked for, the name of the job file and the names of the inputs, which in
+/// the mode `generate` are the seed and the count.
 #[derive(Drop)]
 pub struct Command {
     pub workers: u32,

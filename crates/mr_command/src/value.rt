@@ -1,7 +1,8 @@
 ghost use Rattle.std.specs.Prelude.{◌≡◌, ◌≤◌, IfSome, Option, Some, None, if◌then◌else◌, option_map};
 ghost use Rattle.std.specs.Str.Parse.{digits_value};
 ghost use Rattle.mr_items.specs.Number.{is_numeral_up_to};
-ghost use Rattle.mr_command.specs.Form.{IsUpTo, IsWithin, check_of, counter_up_to, generate_of, mode_of, numeral_up_to, workers_most, workers_of};
+ghost use Rattle.mr_command.specs.Form.{IsUpTo, IsWithin, check_of, counter_up_to, generate_of, mode_of, numeral_up_to, workers_most};
+ghost use Rattle.mr_command.specs.Form.{workers_of};
 
 use crate::command::Mode;
 use mr_base::Word;

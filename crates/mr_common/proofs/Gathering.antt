@@ -1,5 +1,6 @@
 -- The passes of the array are made, and come together in one seat.
-use Rattle.std.proofs.Common.{◌≡◌, ℕ, ℤ, ◌+◌, ◌-◌, ◌<◌, All, Contains, List, [], ◌∷◌, ◌++◌, map, flat_map, length, slice_index_or, refl, sym, ap, ◌∙◌, arith, subst, append_assoc, append-nil}
+use Rattle.std.proofs.Common.{◌≡◌, ℕ, ℤ, ◌+◌, ◌-◌, ◌<◌, All, Contains, List, [], ◌∷◌, ◌++◌, map, flat_map, length, slice_index_or, refl}
+use Rattle.std.proofs.Common.{sym, ap, ◌∙◌, arith, subst, append_assoc, append-nil}
 use Rattle.std.specs.List.{IsDistinct}
 use Rattle.std.specs.List.Sorted.{IsPermutation, IsStrictlySortedBy}
 use Rattle.std.specs.Ordering.{eq_by_cmp, nat_cmp}
@@ -7,7 +8,8 @@ use Rattle.std.proofs.lemmas.Bool.Decides.{nat_tests}
 use Rattle.std.proofs.lemmas.Map.Keys.{IsDistinct-from_sorted, IsDistinct-IsPermutation}
 use Rattle.std.proofs.lemmas.List.Elements.{All-contains, Contains-get_or}
 use Rattle.std.proofs.lemmas.Grind.{flat_map-append}
-use Rattle.std.proofs.lemmas.List.Sorted.{IsPermutation-sym, IsPermutation-trans, IsPermutation-map, IsPermutation-append_comm, IsPermutation-append_right, Contains-permutation}
+use Rattle.std.proofs.lemmas.List.Sorted.{IsPermutation-sym, IsPermutation-trans, IsPermutation-map, IsPermutation-append_comm}
+use Rattle.std.proofs.lemmas.List.Sorted.{IsPermutation-append_right, Contains-permutation}
 use mathlib.Core.Option.{some}
 use lib.ListN.{get_elem?}
 use Rattle.atomic_table.specs.declared.shared.Seat.{Seat}
@@ -32,15 +34,18 @@ pub record Cutting (table : TableId) (n passes count : ℕ) (seat : Seat ℕ Vie
   pub len : length made ≡ count
   pub each : (i : ℕ) (d : CommonPass) → i < count → IsNew table n (slice_index_or made i d)
 
-new_is : (table : TableId) (n : ℕ) (p : CommonPass) → p.seat.table_id ≡ table → p.seat.me.1 ≡ [] → p.seat.me.0 ≡ view 1 [] [] → IsNew table n p
+new_is : (table : TableId) (n : ℕ) (p : CommonPass) → p.seat.table_id ≡ table → p.seat.me.1 ≡ [] → p.seat.me.0 ≡ view 1 [] []
+    → IsNew table n p
 new_is table n p of free is = (
   (of, free, ap (λ (u : View). u.weight) is, λ x. let e = ap (λ (u : View). times x (keys u.won)) is in omega (arith, e)),
   (ap (λ (u : View). u.won) is, ap (λ (u : View). u.refused) is),
 )
 
-pub cut_one : (table : TableId) (n passes count : ℕ) (seat after right : Seat ℕ View) (made : List CommonPass) (p : CommonPass) → Cutting table n passes count seat made → p.seat ≡ right
+pub cut_one : (table : TableId) (n passes count : ℕ) (seat after right : Seat ℕ View) (made : List CommonPass) (p : CommonPass)
+    → Cutting table n passes count seat made → p.seat ≡ right
     → (after.table_id ≡ seat.table_id) × (after.me.1 ≡ []) × (right.table_id ≡ seat.table_id) × (right.me.1 ≡ [])
-    → after.me.0 ≡ view (seat.me.0.weight - 1) seat.me.0.won seat.me.0.refused → right.me.0 ≡ view 1 [] [] → Cutting table n passes (count + 1) after (made ++ p ∷ [])
+    → after.me.0 ≡ view (seat.me.0.weight - 1) seat.me.0.won seat.me.0.refused → right.me.0 ≡ view 1 [] []
+    → Cutting table n passes (count + 1) after (made ++ p ∷ [])
 cut_one table n passes count seat after right made p was is same left cut =
     let l = length-push made p in
     let len = was.len in
@@ -50,10 +55,12 @@ cut_one table n passes count seat after right made p was is same left cut =
       view_is = left ∙ ap (λ (u : View). view (u.weight - 1) u.won u.refused) was.view_is ∙ ap (λ w. view w [] []) (omega arith);
       len = omega (arith, l, len);
       each = each_push (λ i. IsNew table n) count made p len was.each
-          (subst (λ (s : Seat ℕ View). IsNew table n (record { seat = s })) (sym is) (new_is table n (record { seat = right }) (same.2 ∙ was.of) same.3 cut));
+          (subst (λ (s : Seat ℕ View). IsNew table n (record { seat = s })) (sym is)
+          (new_is table n (record { seat = right }) (same.2 ∙ was.of) same.3 cut));
     }
 
-pub all_cut : (table : TableId) (n passes count : ℕ) (seat : Seat ℕ View) (made : List CommonPass) (p : CommonPass) → Cutting table n passes count seat made → p.seat ≡ seat → count + 1 ≡ passes
+pub all_cut : (table : TableId) (n passes count : ℕ) (seat : Seat ℕ View) (made : List CommonPass) (p : CommonPass)
+    → Cutting table n passes count seat made → p.seat ≡ seat → count + 1 ≡ passes
     → (length (made ++ p ∷ []) ≡ passes) × ((i : ℕ) (d : CommonPass) → i < passes → IsNew table n (slice_index_or (made ++ p ∷ []) i d))
 all_cut table n passes count seat made p was is last =
     let l = length-push made p in
@@ -61,11 +68,13 @@ all_cut table n passes count seat made p was is last =
     let one : passes - count ≡ 1 = omega (arith, last) in
     let new = new_is table n (record { seat = seat }) was.of was.free (was.view_is ∙ ap (λ w. view w [] []) one) in (
       omega (arith, l, len, last),
-      λ i d lt. each_push (λ i. IsNew table n) count made p len was.each (subst (λ (s : Seat ℕ View). IsNew table n (record { seat = s })) (sym is) new) i d (omega (arith, lt, last)),
+      λ i d lt. each_push (λ i. IsNew table n) count made p len was.each
+          (subst (λ (s : Seat ℕ View). IsNew table n (record { seat = s })) (sym is) new) i d (omega (arith, lt, last)),
     )
 
 -- the lists of passes joined, where one more is last
-flat_map-push : {X : Type 0} (f : CommonPass → List X) (ps : List CommonPass) (p : CommonPass) → flat_map f (ps ++ p ∷ []) ≡ flat_map f ps ++ f p
+flat_map-push : {X : Type 0} (f : CommonPass → List X) (ps : List CommonPass) (p : CommonPass)
+    → flat_map f (ps ++ p ∷ []) ≡ flat_map f ps ++ f p
 flat_map-push f ps p = flat_map-append f ps (p ∷ []) ∙ ap (λ l. flat_map f ps ++ l) (append-nil (f p))
 
 -- what was left to come is now beside what was there
@@ -91,7 +100,8 @@ module _ (table : TableId) (n passes : ℕ) (left : List CommonPass) (p : Common
   rest : ArePassesOf table n (left ++ p ∷ []) → ArePassesOf table n left
   rest h = before_of (λ i. IsPassOf table n) left p h
 
-  pub begins : (all : List CommonPass) → all ≡ left ++ p ∷ [] → length all ≡ passes → ArePassesOf table n all → Gathers table n passes p.seat left all
+  pub begins : (all : List CommonPass) → all ≡ left ++ p ∷ [] → length all ≡ passes → ArePassesOf table n all
+      → Gathers table n passes p.seat left all
   begins all is len each =
       let h = subst (ArePassesOf table n) is each in
       let m = mine h in
@@ -103,8 +113,10 @@ module _ (table : TableId) (n passes : ℕ) (left : List CommonPass) (p : Common
         free = m.1;
         weight = omega (arith, len, l, a, w);
         some_weight = omega (arith, w);
-        won = subst (λ l. IsPermutation l (won p ++ flat_map won left)) (sym (ap (flat_map won) is ∙ flat_map-push won left p)) (IsPermutation-append_comm (flat_map won left) (won p));
-        refused = subst (λ l. IsPermutation l (refused p ++ flat_map refused left)) (sym (ap (flat_map refused) is ∙ flat_map-push refused left p)) (IsPermutation-append_comm (flat_map refused left) (refused p));
+        won = subst (λ l. IsPermutation l (won p ++ flat_map won left)) (sym (ap (flat_map won) is ∙ flat_map-push won left p))
+            (IsPermutation-append_comm (flat_map won left) (won p));
+        refused = subst (λ l. IsPermutation l (refused p ++ flat_map refused left))
+            (sym (ap (flat_map refused) is ∙ flat_map-push refused left p)) (IsPermutation-append_comm (flat_map refused left) (refused p));
         each = rest h;
       }
 
@@ -116,7 +128,8 @@ module _ (table : TableId) (n passes : ℕ) (left : List CommonPass) (p : Common
     next_seat = let m = mine here in (m.0, m.1)
 
     pub goes_on : (after : Seat ℕ View) → after.table_id ≡ seat.table_id → after.me.1 ≡ []
-        → after.me.0 ≡ view (seat.me.0.weight + p.seat.me.0.weight) (seat.me.0.won ++ p.seat.me.0.won) (seat.me.0.refused ++ p.seat.me.0.refused) → Gathers table n passes after left all
+        → after.me.0 ≡ view (seat.me.0.weight + p.seat.me.0.weight) (seat.me.0.won ++ p.seat.me.0.won)
+        (seat.me.0.refused ++ p.seat.me.0.refused) → Gathers table n passes after left all
     goes_on after of free views =
         let m = mine here in
         let l = length-push left p in
@@ -135,7 +148,8 @@ module _ (table : TableId) (n passes : ℕ) (left : List CommonPass) (p : Common
               (subst (λ l. IsPermutation (flat_map won all) (seat.me.0.won ++ l)) (ap (flat_map won) is ∙ flat_map-push won left p) g.won));
           refused = subst (λ (u : View). IsPermutation (flat_map refused all) (u.refused ++ flat_map refused left)) (sym views)
               (moved (flat_map refused all) seat.me.0.refused (flat_map refused left) (refused p)
-              (subst (λ l. IsPermutation (flat_map refused all) (seat.me.0.refused ++ l)) (ap (flat_map refused) is ∙ flat_map-push refused left p) g.refused));
+              (subst (λ l. IsPermutation (flat_map refused all) (seat.me.0.refused ++ l))
+              (ap (flat_map refused) is ∙ flat_map-push refused left p) g.refused));
           each = rest here;
         }
 
@@ -144,7 +158,8 @@ keys_of_rows [] = refl
 keys_of_rows (p ∷ ps) = ap (λ l. p.0 ∷ l) (keys_of_rows ps)
 
 -- none is left: the last state of the words has all that was won
-module _ (table : TableId) (n passes : ℕ) (seat : Seat ℕ View) (now all : List CommonPass) (g : Gathers table n passes seat now all) (none : now ≡ []) (words : List ℕ) (views : List View)
+module _ (table : TableId) (n passes : ℕ) (seat : Seat ℕ View) (now all : List CommonPass) (g : Gathers table n passes seat now all)
+    (none : now ≡ []) (words : List ℕ) (views : List View)
     (held : IsLawful n passes words views) (at : get_elem? views seat.id ≡ some seat.me.0) where
   whole : seat.me.0.weight ≡ passes
   whole = let a = ap length none in let w = g.weight in omega (arith, a, w)
@@ -153,18 +168,22 @@ module _ (table : TableId) (n passes : ℕ) (seat : Seat ℕ View) (now all : Li
   all_won = subst (IsPermutation (flat_map won all)) (ap (λ l. seat.me.0.won ++ flat_map won l) none ∙ append-nil seat.me.0.won) g.won
 
   all_refused : IsPermutation (flat_map refused all) seat.me.0.refused
-  all_refused = subst (IsPermutation (flat_map refused all)) (ap (λ l. seat.me.0.refused ++ flat_map refused l) none ∙ append-nil seat.me.0.refused) g.refused
+  all_refused = subst (IsPermutation (flat_map refused all))
+      (ap (λ l. seat.me.0.refused ++ flat_map refused l) none ∙ append-nil seat.me.0.refused) g.refused
 
   pub end_pairs : IsPermutation (flat_map won all) (pairs_to words n)
   end_pairs = IsPermutation-trans (flat_map won all) seat.me.0.won (pairs_to words n) all_won
-      (same_pairs words n seat.me.0.won (pairs_held n passes seat.id seat.me.0 words views held at whole) (won_is n passes seat.id seat.me.0 words views held at whole)
+      (same_pairs words n seat.me.0.won (pairs_held n passes seat.id seat.me.0 words views held at whole)
+      (won_is n passes seat.id seat.me.0 words views held at whole)
       (won_outside n passes seat.id seat.me.0 words views held at whole))
 
   pub end_refused : All (Contains (keys (flat_map won all))) (flat_map refused all)
   end_refused i d lt =
       let k : ℕ = slice_index_or (flat_map refused all) i d in
-      let r = refused_won words n seat.me.0.won (pairs_held n passes seat.id seat.me.0 words views held at whole) (won_is n passes seat.id seat.me.0 words views held at whole)
-      (won_outside n passes seat.id seat.me.0 words views held at whole) seat.me.0.refused (refused_full n passes seat.id seat.me.0 words views held at whole) in
+      let r = refused_won words n seat.me.0.won (pairs_held n passes seat.id seat.me.0 words views held at whole)
+      (won_is n passes seat.id seat.me.0 words views held at whole)
+      (won_outside n passes seat.id seat.me.0 words views held at whole) seat.me.0.refused
+      (refused_full n passes seat.id seat.me.0 words views held at whole) in
       Contains-permutation (keys seat.me.0.won) (keys (flat_map won all)) k
       (IsPermutation-map (λ p. p.0) seat.me.0.won (flat_map won all) (IsPermutation-sym (flat_map won all) seat.me.0.won all_won))
       (All-contains (Contains (keys seat.me.0.won)) seat.me.0.refused k r
@@ -177,6 +196,8 @@ module _ (table : TableId) (n passes : ℕ) (seat : Seat ℕ View) (now all : Li
   end_rows = IsPermutation-map row_of (flat_map won all) (pairs_to words n) end_pairs
 
   pub end_differ : IsDistinct (eq_by_cmp nat_cmp) (keys (flat_map won all))
-  end_differ = IsDistinct-IsPermutation (eq_by_cmp nat_cmp) (λ x y. grind (arith, nat_tests)) (keys (pairs_to words n)) (keys (flat_map won all))
-      (IsPermutation-map (λ p. p.0) (pairs_to words n) (flat_map won all) (IsPermutation-sym (flat_map won all) (pairs_to words n) end_pairs))
+  end_differ =
+      IsDistinct-IsPermutation (eq_by_cmp nat_cmp) (λ x y. grind (arith, nat_tests)) (keys (pairs_to words n)) (keys (flat_map won all))
+      (IsPermutation-map (λ p. p.0) (pairs_to words n) (flat_map won all)
+      (IsPermutation-sym (flat_map won all) (pairs_to words n) end_pairs))
       (IsDistinct-from_sorted nat_cmp (keys (pairs_to words n)) (ascending words n))

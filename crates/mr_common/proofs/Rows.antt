@@ -1,5 +1,6 @@
 -- The words that are not empty, as pairs, and as rows.
-use Rattle.std.proofs.Common.{◌≡◌, ◌≢◌, ℕ, ℤ, zero, suc, ◌+◌, ◌<◌, ◌≤◌, ◌==◌, true, false, cond, nat_lt, All, Contains, List, [], ◌∷◌, ◌++◌, map, slice_index, slice_index_or, refl, sym, ap, ◌∙◌, arith, add-one, append-nil, subst}
+use Rattle.std.proofs.Common.{◌≡◌, ◌≢◌, ℕ, ℤ, zero, suc, ◌+◌, ◌<◌, ◌≤◌, ◌==◌, true, false, cond, nat_lt, All, Contains, List, [], ◌∷◌, ◌++◌}
+use Rattle.std.proofs.Common.{map, slice_index, slice_index_or, refl, sym, ap, ◌∙◌, arith, add-one, append-nil, subst}
 use Rattle.std.specs.List.{AllByRecursion}
 use Rattle.std.specs.List.Sorted.{IsPermutation, IsStrictlySortedBy}
 use Rattle.std.specs.declared.cmp.Ordering.TheVariants.{Less}
@@ -22,7 +23,8 @@ use Rattle.mr_common.specs.Passes.{pairs_to}
 use Rattle.mr_common.proofs.Steps.{times-keys_push}
 
 -- one more pair was won
-pub apart_more : (n k : ℕ) (z : ℤ) (v w : View) → IsApartBelow n (keys v.won) → k < n → w ≡ view 1 (v.won ++ (k, z) ∷ []) v.refused → ((j : ℕ) → times j (keys w.won) ≤ 1)
+pub apart_more : (n k : ℕ) (z : ℤ) (v w : View) → IsApartBelow n (keys v.won) → k < n → w ≡ view 1 (v.won ++ (k, z) ∷ []) v.refused
+    → ((j : ℕ) → times j (keys w.won) ≤ 1)
     → IsApartBelow n (keys w.won)
 apart_more n k z v w apart lt is one x =
     let o = one x in
@@ -45,16 +47,19 @@ full_at words k e = let b : (slice_index words k == EMPTY) ≡ false = grind (ar
 
 pub pairs_none : (words : List ℕ) (k : ℕ) → slice_index words k ≡ EMPTY → pairs_to words (k + 1) ≡ pairs_to words k
 unfolding pair_at
-pairs_none words k e = ap (pairs_to words) (add-one k) ∙ ap (λ l. pairs_to words k ++ l) (empty_at words k e) ∙ append-nil (pairs_to words k)
+pairs_none words k e =
+    ap (pairs_to words) (add-one k) ∙ ap (λ l. pairs_to words k ++ l) (empty_at words k e) ∙ append-nil (pairs_to words k)
 
-pub pairs_one : (words : List ℕ) (k : ℕ) → slice_index words k ≢ EMPTY → pairs_to words (k + 1) ≡ pairs_to words k ++ (k, cast_signed w64 (slice_index words k)) ∷ []
+pub pairs_one : (words : List ℕ) (k : ℕ) → slice_index words k ≢ EMPTY
+    → pairs_to words (k + 1) ≡ pairs_to words k ++ (k, cast_signed w64 (slice_index words k)) ∷ []
 unfolding pair_at
 pairs_one words k e = ap (pairs_to words) (add-one k) ∙ ap (λ l. pairs_to words k ++ l) (full_at words k e)
 
 -- a fact of the pairs so far goes on to the next word
 each_word : (words : List ℕ) (F : ℕ → List (ℕ × ℤ) → Type 0) → F 0 []
     → ((k : ℕ) → slice_index words k ≡ EMPTY → F k (pairs_to words k) → F (k + 1) (pairs_to words k))
-    → ((k : ℕ) → slice_index words k ≢ EMPTY → F k (pairs_to words k) → F (k + 1) (pairs_to words k ++ (k, cast_signed w64 (slice_index words k)) ∷ []))
+    → ((k : ℕ) → slice_index words k ≢ EMPTY → F k (pairs_to words k)
+    → F (k + 1) (pairs_to words k ++ (k, cast_signed w64 (slice_index words k)) ∷ []))
     → (n : ℕ) → F n (pairs_to words n)
 each_word words F start stays grows zero = start
 each_word words F start stays grows (suc n) =
@@ -73,11 +78,13 @@ below_more : (m : ℕ) (ks : List ℕ) → AllByRecursion (λ k. k < m) ks → A
 below_more m [] h = tt
 below_more m (k ∷ ks) h = (let a = h.0 in omega (arith, a), below_more m ks h.1)
 
-above_push : (m k : ℕ) (ks : List ℕ) → k < m → AllByRecursion (λ y. nat_cmp k y ≡ Less) ks → AllByRecursion (λ y. nat_cmp k y ≡ Less) (ks ++ m ∷ [])
+above_push : (m k : ℕ) (ks : List ℕ) → k < m → AllByRecursion (λ y. nat_cmp k y ≡ Less) ks
+    → AllByRecursion (λ y. nat_cmp k y ≡ Less) (ks ++ m ∷ [])
 above_push m k [] lt h = (grind (arith, nat_tests, lt), tt)
 above_push m k (y ∷ ys) lt h = (h.0, above_push m k ys lt h.1)
 
-sorted_push : (m : ℕ) (ks : List ℕ) → IsStrictlySortedBy nat_cmp ks → AllByRecursion (λ k. k < m) ks → IsStrictlySortedBy nat_cmp (ks ++ m ∷ [])
+sorted_push : (m : ℕ) (ks : List ℕ) → IsStrictlySortedBy nat_cmp ks → AllByRecursion (λ k. k < m) ks
+    → IsStrictlySortedBy nat_cmp (ks ++ m ∷ [])
 unfolding IsStrictlySortedBy
 sorted_push m [] s b = (tt, tt)
 sorted_push m (k ∷ ks) s b = (above_push m k ks b.0 s.0, sorted_push m ks s.1 b.1)
@@ -105,7 +112,8 @@ valued words n = each_word words (λ k ps. All (HasValue words) ps) (λ k d lt. 
 
 -- and each word that is not empty has one
 counted : (words : List ℕ) (j n : ℕ) → times j (keys (pairs_to words n)) ≡ cond (nat_lt j n) (cond (slice_index words j == EMPTY) 0 1) 0
-counted words j n = each_word words (λ k ps. times j (keys ps) ≡ cond (nat_lt j k) (cond (slice_index words j == EMPTY) 0 1) 0) (grind (arith, nat_tests))
+counted words j n =
+    each_word words (λ k ps. times j (keys ps) ≡ cond (nat_lt j k) (cond (slice_index words j == EMPTY) 0 1) 0) (grind (arith, nat_tests))
     (λ k e h. dite (ℕ_discrete j k)
     (λ is. let z = ap (slice_index words) is ∙ e in grind (arith, nat_tests, h, is, z))
     (λ ne. grind (arith, nat_tests, h, ne)))
@@ -115,7 +123,8 @@ counted words j n = each_word words (λ k ps. times j (keys ps) ≡ cond (nat_lt
     (λ ne. grind (arith, nat_tests, h, p, ne))) n
 
 -- pairs whose keys have these values are told by their keys
-told_by_keys : (words : List ℕ) (ps : List (ℕ × ℤ)) → All (HasValue words) ps → map (λ k. (k, cast_signed w64 (slice_index words k))) (keys ps) ≡ ps
+told_by_keys : (words : List ℕ) (ps : List (ℕ × ℤ)) → All (HasValue words) ps
+    → map (λ k. (k, cast_signed w64 (slice_index words k))) (keys ps) ≡ ps
 told_by_keys words [] h = refl
 told_by_keys words (p ∷ ps) h =
     let first : cast_signed w64 (slice_index words p.0) ≡ p.1 = h 0 p (omega arith) in
@@ -123,7 +132,8 @@ told_by_keys words (p ∷ ps) h =
     λ i. (p.0, first i) ∷ rest i
 
 module _ (words : List ℕ) (n : ℕ) (won : List (ℕ × ℤ)) (held : All (IsHeld n words) won)
-    (inside : (k : ℕ) → k < n → times k (keys won) ≡ cond (slice_index words k == EMPTY) 0 1) (outside : (k : ℕ) → n ≤ k → times k (keys won) ≡ 0) where
+    (inside : (k : ℕ) → k < n → times k (keys won) ≡ cond (slice_index words k == EMPTY) 0 1)
+    (outside : (k : ℕ) → n ≤ k → times k (keys won) ≡ 0) where
   same_keys : IsPermutation (keys won) (keys (pairs_to words n))
   same_keys = permuted (keys won) (keys (pairs_to words n)) (λ k.
       let c = counted words k n in

@@ -14,7 +14,8 @@ use Rattle.mr_defs.proofs.Shuffled.{IsPermutation-at}
 use Rattle.mr_container.specs.Laws.{noted_in_any_order}
 
 module _ {K V : Type 0} {R : K → K → Ordering} (o : IsTotalOrder R) (one : IsAntisymmetric R) (inside : K → Bool) where
-  pub shares_in_any_order : (won : List (K × V)) (refused : List K) (cells : ℕ) (noted : Noted K) (es fs : List (Emission K V)) → IsPermutation es fs
+  pub shares_in_any_order : (won : List (K × V)) (refused : List K) (cells : ℕ) (noted : Noted K) (es fs : List (Emission K V))
+      → IsPermutation es fs
       → SharesFor R inside won refused cells noted es → SharesFor R inside won refused cells noted fs
   shares_in_any_order won refused cells noted es fs p was = record {
     pairs = λ i d lt. Contains-permutation es fs (Pair (slice_index_or won i d).0 (slice_index_or won i d).1) p (was.pairs i d lt);

@@ -1,8 +1,11 @@
-ghost use Rattle.std.specs.Prelude.{◌≡◌, ◌≢◌, ◌<◌, ◌≤◌, ◌↔◌, [], ◌∷◌, ◌++◌, ℕ, negsuc, IfOk, All, Contains, flat_map, map, length, slice_index, slice_index_or, vec_len, vec_capacity};
+ghost use Rattle.std.specs.Prelude.{◌≡◌, ◌≢◌, ◌<◌, ◌≤◌, ◌↔◌, [], ◌∷◌, ◌++◌, ℕ, negsuc, IfOk, All, Contains, flat_map, map, length};
+ghost use Rattle.std.specs.Prelude.{slice_index, slice_index_or, vec_len, vec_capacity};
 ghost use Rattle.std.specs.List.{IsDistinct};
 ghost use Rattle.std.specs.List.Sorted.{IsPermutation, IsStrictlySortedBy};
 ghost use Rattle.std.specs.Ordering.{eq_by_cmp, nat_cmp};
 ghost use Rattle.std.specs.Slots.{slots_len, slots_items, IsFull};
+ghost use Rattle.mr_defs.specs.Folded.{limit};
+ghost use Rattle.mr_defs.specs.Limits.{greatest_capacity};
 ghost use Rattle.mr_common.specs.declared.common.CommonPass.{CommonPass};
 ghost use Rattle.mr_common.specs.declared.common.Emitted.TheVariants.{Won, Twice, Outside};
 ghost use Rattle.mr_common.specs.Lawful.{EMPTY, keys};
@@ -32,7 +35,7 @@ fn empty_words(alloc: Global, count: usize) -> Result<Vec<u64>, Memory>
 
 fn whole(table: Words, size: u32) -> CommonArray
     requires words { (table.shared.table_id.words ≡ size) × (table.shared.table_id.slots ≡ 0) × (table.shared.key.words ≡ size) }
-    requires few { (0 < size) × (size ≤ 65536) }
+    requires few { (0 < size) × (size ≤ greatest_capacity) }
     ensures { (result.table ≡ table) × (result.size ≡ size) }
 {
     CommonArray { table, size }
@@ -46,7 +49,7 @@ impl CommonArray {
         passes: u32,
     ) -> Result<(CommonArray, Few<CommonPass>), Memory>
         requires passes { (0 < passes) × (passes ≤ 32) }
-        requires words { (0 < size) × (size ≤ 65536) }
+        requires words { (0 < size) × (size ≤ greatest_capacity) }
         ensures size { IfOk result (λ r. r.0.size ≡ size) }
         ensures count { IfOk result (λ r. (length r.1.items ≡ passes) × (r.0.table.shared.key.passes ≡ passes)) }
         ensures passes { IfOk result (λ r. ArePassesOf r.0.table.shared.table_id size r.1.items) }
@@ -68,11 +71,11 @@ impl CommonArray {
         Ok((array, all))
     }
 
-    /// Emits a pair. `Outside` comes exactly where the key isn't below the size, and changes nothing. Else one exchange of the key's word decides: the first pair of a
-    /// key is won, and a later one is refused. Takes no memory and waits for nobody.
+    /// Emits a pair. `Outside` comes exactly where the key isn't below the size, and changes nothing. Else one exchange of the key's word
+    /// decides: the first pair of a key is won, and a later one is refused. Takes no memory and waits for nobody.
     pub fn emit(&self, pass: &mut CommonPass, key: u64, value: i64) -> Emitted
         requires pass { IsPassOf self.now.table.shared.table_id self.now.size pass.old }
-        requires value { value ≢ negsuc 9223372036854775807 }
+        requires value { value ≢ negsuc limit }
         ensures same { IsPassOf self.now.table.shared.table_id self.now.size pass.new × (pass.new.seat.id ≡ pass.old.seat.id) }
         ensures won { result ≡ Won → (won pass.new ≡ won pass.old ++ (key, value) ∷ []) × (refused pass.new ≡ refused pass.old) }
         ensures twice { result ≡ Twice → (won pass.new ≡ won pass.old) × (refused pass.new ≡ refused pass.old ++ key ∷ []) }
@@ -94,7 +97,8 @@ impl CommonArray {
         }
     }
 
-    /// Ends the array: the rows are all pairs that the passes won, ascending by key. The keys that were won differ, and each key that was refused is one of them.
+    /// Ends the array: the rows are all pairs that the passes won, ascending by key. The keys that were won differ, and each key that was
+    /// refused is one of them.
     ///
     /// The passes are all those of this array.
     pub fn finish(self, alloc: Global, mut passes: Few<CommonPass>) -> Result<Rows<NumKey>, Memory>

@@ -1,4 +1,5 @@
 ghost use Rattle.std.specs.Prelude.{◌≡◌, ◌<◌, ◌≤◌};
+ghost use Rattle.mr_defs.specs.Limits.{greatest_capacity};
 
 use crate::rule::FirstWins;
 use crate::view::{Extent, View};
@@ -11,7 +12,7 @@ pub struct CommonArray {
     pub(crate) table: Table<u8, View, Extent, FirstWins, Global>,
     pub(crate) size: u32,
     ghost words: { (table.shared.table_id.words ≡ size) × (table.shared.table_id.slots ≡ 0) × (table.shared.key.words ≡ size) },
-    ghost few: { (0 < size) × (size ≤ 65536) },
+    ghost few: { (0 < size) × (size ≤ greatest_capacity) },
 }
 
 /// The right of one worker to emit. Contracts see the pairs that it won and the keys that it was refused.

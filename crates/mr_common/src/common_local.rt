@@ -4,7 +4,8 @@ ghost use Rattle.mr_common.specs.Passes.{IsPassOf, won};
 use crate::common::{CommonArray, CommonPass};
 use mr_base::{Faults, NumKey};
 
-/// The container of one worker over the array common to all: it emits by the worker's pass, counts the pairs that the pass won, and notes the faults.
+/// The container of one worker over the array common to all: it emits by the worker's pass, counts the pairs that the pass won, and notes
+/// the faults.
 ///
 /// In place of cells, what its pass won and was refused are the pairs of the keys below the array's size that were emitted into it.
 #[derive(Drop)]

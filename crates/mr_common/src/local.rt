@@ -35,7 +35,8 @@ impl<'a> CommonLocal<'a> {
         ensures left { (result.0 ≡ self.entry.pass) × (result.1 ≡ self.entry.faults) }
         ensures of { IsPassOf self.entry.array.now.table.shared.table_id self.entry.array.now.size result.0 }
         ensures shares { (es : List (Emission ℕ ℤ)) → ⟦<CommonLocal<'a> as Local>⟧.stands self.entry es
-            → SharesFor nat_cmp (λ k. nat_lt k self.entry.array.now.size) (won result.0) (refused result.0) (length (won result.0)) (noted_of result.1) es }
+            → SharesFor nat_cmp (λ k. nat_lt k self.entry.array.now.size) (won result.0) (refused result.0) (length (won result.0))
+            (noted_of result.1) es }
     {
         (self.pass, self.faults)
     }
@@ -46,7 +47,8 @@ impl<'a> Local for CommonLocal<'a> {
 
     type Value = i64;
 
-    ghost stands = { λ s es. SharesFor ⟦<NumKey as Ord>⟧.cmp (λ k. nat_lt k s.array.now.size) (won s.pass) (refused s.pass) s.cells (noted_of s.faults) es };
+    ghost stands = { λ s es. SharesFor ⟦<NumKey as Ord>⟧.cmp (λ k. nat_lt k s.array.now.size) (won s.pass) (refused s.pass) s.cells
+        (noted_of s.faults) es };
 
     ghost noted = { λ s. noted_of s.faults };
 
@@ -58,12 +60,14 @@ impl<'a> Local for CommonLocal<'a> {
 
     ghost spares = { λ _ _. true };
 
-    ghost any_order = { λ s es fs p h. shares_in_any_order nat_cmp_total nat_cmp-IsAntisymmetric (λ k. nat_lt k s.array.now.size) _ _ _ _ es fs p h };
+    ghost any_order = { λ s es fs p h. shares_in_any_order nat_cmp_total nat_cmp-IsAntisymmetric
+        (λ k. nat_lt k s.array.now.size) _ _ _ _ es fs p h };
 
     ghost same_refl = { λ _. refl };
 
     ghost same_keeps = { λ s t e. (
-      (λ es h. subst (λ l. SharesFor ⟦<NumKey as Ord>⟧.cmp (λ k. nat_lt k l.array.now.size) (won l.pass) (refused l.pass) l.cells (noted_of l.faults) es) (sym e) h),
+      (λ es h. subst (λ l. SharesFor ⟦<NumKey as Ord>⟧.cmp (λ k. nat_lt k l.array.now.size) (won l.pass) (refused l.pass) l.cells
+          (noted_of l.faults) es) (sym e) h),
       ap (λ l. noted_of l.faults) e,
       ap (λ l. l.cells) e,
       λ _. refl,

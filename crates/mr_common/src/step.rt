@@ -2,6 +2,7 @@
 ghost use Rattle.std.specs.Prelude.{ℕ, negsuc, ◌≡◌, ◌≢◌, ◌<◌, ◌≤◌, ◌+◌, ◌-◌, [], ◌∷◌, ◌++◌, true, false};
 ghost use Rattle.std.specs.Int.{cast_signed};
 ghost use mir.Syntax.{w64};
+ghost use Rattle.mr_defs.specs.Folded.{limit};
 ghost use Rattle.mr_base.specs.Tasks.{times};
 ghost use Rattle.mr_common.specs.Lawful.{view, keys, EMPTY};
 
@@ -18,7 +19,7 @@ pub(crate) const NOTHING: u64 = 1 << 63;
 
 // The bits of a value.
 pub(crate) fn word_of(value: i64) -> u64
-    requires { value ≢ negsuc 9223372036854775807 }
+    requires { value ≢ negsuc limit }
     ensures is { cast_signed w64 result ≡ value }
     ensures full { result ≢ EMPTY }
 {
@@ -43,7 +44,8 @@ pub(crate) fn cut_off(words: &Words, seat: &mut Emitter) -> Emitter
     requires seat { (seat.old.table_id ≡ words.now.table_id) × (seat.old.me.1 ≡ []) × (0 < words.now.table_id.words) }
     requires weight { 2 ≤ seat.old.me.0.weight }
     requires unused { (seat.old.me.0.won ≡ []) × (seat.old.me.0.refused ≡ []) }
-    ensures same { (seat.new.table_id ≡ seat.old.table_id) × (seat.new.me.1 ≡ []) × (result.table_id ≡ seat.old.table_id) × (result.me.1 ≡ []) }
+    ensures same { (seat.new.table_id ≡ seat.old.table_id) × (seat.new.me.1 ≡ []) × (result.table_id ≡ seat.old.table_id)
+        × (result.me.1 ≡ []) }
     ensures left { let v = seat.old.me.0 in seat.new.me.0 ≡ view (v.weight - 1) v.won v.refused }
     ensures right { result.me.0 ≡ view 1 [] [] }
 {
@@ -52,10 +54,12 @@ pub(crate) fn cut_off(words: &Words, seat: &mut Emitter) -> Emitter
 
 // Takes in what another seat has.
 pub(crate) fn join(words: &Words, seat: &mut Emitter, other: Emitter)
-    requires seat { (seat.old.table_id ≡ words.now.table_id) × (seat.old.me.1 ≡ []) × (0 < words.now.table_id.words) × (0 < seat.old.me.0.weight) }
+    requires seat { (seat.old.table_id ≡ words.now.table_id) × (seat.old.me.1 ≡ []) × (0 < words.now.table_id.words)
+        × (0 < seat.old.me.0.weight) }
     requires other { (other.table_id ≡ words.now.table_id) × (other.me.1 ≡ []) }
     ensures same { (seat.new.table_id ≡ seat.old.table_id) × (seat.new.me.1 ≡ []) }
-    ensures both { let v = seat.old.me.0 in let w = other.me.0 in seat.new.me.0 ≡ view (v.weight + w.weight) (v.won ++ w.won) (v.refused ++ w.refused) }
+    ensures both { let v = seat.old.me.0 in let w = other.me.0 in
+        seat.new.me.0 ≡ view (v.weight + w.weight) (v.won ++ w.won) (v.refused ++ w.refused) }
 {
     words.join_seat::<Deal>(seat, other);
 }

@@ -1,6 +1,7 @@
 use std::collections::LinkedList;
 
-// What a pass knows: the weight of the right to know the whole, the pairs that it won, and the keys that it was refused. No value of it is made.
+// What a pass knows: the weight of the right to know the whole, the pairs that it won, and the keys that it was refused. No value of it is
+// made.
 pub struct View {
     pub weight: u64,
     pub won: LinkedList<(u64, i64)>,

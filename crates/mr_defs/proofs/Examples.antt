@@ -5,7 +5,8 @@ use Rattle.std.specs.Ordering.{nat_cmp}
 use Rattle.mr_defs.specs.Emission.{Emission, Pair, TooLarge, Malformed, Row}
 use Rattle.mr_defs.specs.declared.Fault.TheVariants as fault
 use Rattle.mr_defs.specs.Faulty.{fault_of, common_fault_of}
-use Rattle.mr_defs.specs.Folded.{sum_folded, min_folded, max_folded, count_folded, and_folded, or_folded, xor_folded, minmax_folded, sumcount_folded, vecsum_folded, list_folded, distinct_folded, median_folded, once_folded}
+use Rattle.mr_defs.specs.Folded.{sum_folded, min_folded, max_folded, count_folded, and_folded, or_folded, xor_folded, minmax_folded}
+use Rattle.mr_defs.specs.Folded.{sumcount_folded, vecsum_folded, list_folded, distinct_folded, median_folded, once_folded}
 use Rattle.mr_defs.specs.Rows.{rows_of, cells_of}
 use Rattle.mr_defs.specs.Rounds.{Next, again, ended, rounds_of, states_of}
 use Rattle.mr_defs.specs.Tasks.{pieces_of, spans_of, step_of}

@@ -1,5 +1,6 @@
 -- A list of one value or none has no other order, and what all keys of a list do that no test holds.
-use Rattle.std.proofs.Common.{◌≡◌, ℕ, zero, suc, ◌<◌, Bool, true, false, cond, List, [], ◌∷◌, length, Option, Some, None, refl, sym, ap, subst, ◌∙◌, arith, filter, filter_map, swap, IsPermutation}
+use Rattle.std.proofs.Common.{◌≡◌, ℕ, zero, suc, ◌<◌, Bool, true, false, cond, List, [], ◌∷◌, length, Option, Some, None, refl, sym, ap}
+use Rattle.std.proofs.Common.{subst, ◌∙◌, arith, filter, filter_map, swap, IsPermutation}
 use Rattle.std.specs.Prelude.{nat_lt}
 use Rattle.std.specs.List.{cons_option}
 use Rattle.std.proofs.lemmas.Bool.{lt-ltb}
@@ -37,6 +38,7 @@ module _ {K Y : Type 0} (op : K → K → K) (test : K → Bool) (f g : K → Op
   passed_over (k ∷ ks) none = by (test k) refl none (passed_over ks)
     where
       by : (t : Bool) → test k ≡ t → joined_by op (λ k. Some k) (cond t (k ∷ filter test ks) (filter test ks)) ≡ None
-          → (joined_by op (λ k. Some k) (filter test ks) ≡ None → filter_map f ks ≡ filter_map g ks) → filter_map f (k ∷ ks) ≡ filter_map g (k ∷ ks)
+          → (joined_by op (λ k. Some k) (filter test ks) ≡ None → filter_map f ks ≡ filter_map g ks)
+          → filter_map f (k ∷ ks) ≡ filter_map g (k ∷ ks)
       by true e none rest = absurd (some_joined (joined_by op (λ k. Some k) (filter test ks)) k none)
       by false e none rest = λ i. cons_option (same k e i) (rest none i)

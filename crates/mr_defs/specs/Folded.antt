@@ -1,5 +1,6 @@
 -- What the values of a key fold to, for each combiner, where there is a value. None says that they are over.
-use Rattle.std.specs.Prelude.{ℕ, ◌-◌, ◌/◌, max, ℤ, pos, ◌+ℤ◌, nat_abs, nat_le, ◌&&◌, if◌then◌else◌, List, [], ◌∷◌, ◌++◌, length, map, fold, sum_by, get_or, Option, Some, None, option_map, option_and_then, bit_and, bit_or, bit_xor}
+use Rattle.std.specs.Prelude.{ℕ, ◌-◌, ◌/◌, max, ℤ, pos, ◌+ℤ◌, nat_abs, nat_le, ◌&&◌, if◌then◌else◌, List, [], ◌∷◌, ◌++◌, length, map, fold}
+use Rattle.std.specs.Prelude.{sum_by, get_or, Option, Some, None, option_map, option_and_then, bit_and, bit_or, bit_xor}
 use Rattle.std.specs.List.{reduce, list_all, range_with_len}
 use Rattle.std.specs.declared.cmp.Ordering.{Ordering}
 use Rattle.std.specs.Ordering.{int_cmp, is_gt}

@@ -7,6 +7,7 @@ pub mod Folded
 pub mod Rows
 pub mod Stands
 pub mod Partitions
+pub mod Limits
 pub mod Tasks
 pub mod Rounds
 pub mod Laws

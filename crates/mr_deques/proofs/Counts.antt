@@ -1,5 +1,6 @@
 -- The tasks in lists of numbers, counted.
-use Rattle.std.proofs.Common.{flat_map, ◌≡◌, ℕ, zero, suc, ◌+◌, ◌<◌, ◌≤◌, true, false, cond, nat_lt, List, [], ◌∷◌, ◌++◌, length, slice_index_or, slice_set, refl, ap, arith, subst}
+use Rattle.std.proofs.Common.{flat_map, ◌≡◌, ℕ, zero, suc, ◌+◌, ◌<◌, ◌≤◌, true, false, cond, nat_lt, List, [], ◌∷◌, ◌++◌, length}
+use Rattle.std.proofs.Common.{slice_index_or, slice_set, refl, ap, arith, subst}
 use Rattle.std.proofs.lemmas.Bool.Decides.{nat_tests}
 use mathlib.Core.Logic.{dite}
 use native.Mathlib.Decide.{dec_lt}
@@ -36,7 +37,8 @@ module _ {X : Type 0} (f : X → List ℕ) (t n : ℕ) (pos : 0 < n) where
   spread [] k y h = omega arith
   spread (x ∷ xs) k y h =
       let a : times y (f x) ≤ in_range t n k y = subst (λ i. times y (f x) ≤ in_range t n i y) (omega arith) (h 0 x (omega arith)) in
-      let b = spread xs (k + 1) y (λ j e lt. subst (λ i. times y (f (slice_index_or xs j e)) ≤ in_range t n i y) (omega arith) (h (suc j) e (omega (arith, lt)))) in
+      let b = spread xs (k + 1) y
+      (λ j e lt. subst (λ i. times y (f (slice_index_or xs j e)) ≤ in_range t n i y) (omega arith) (h (suc j) e (omega (arith, lt)))) in
       let c = times-append y (f x) (flat_map f xs) in
       let u = start_up t n k (k + 1) pos (omega arith) in
       let e : (k + 1) + length xs ≡ k + suc (length xs) = omega arith in
@@ -44,12 +46,14 @@ module _ {X : Type 0} (f : X → List ℕ) (t n : ℕ) (pos : 0 < n) where
       let w = start_up t n (k + 1) (k + suc (length xs)) pos (omega arith) in
       grind (arith, nat_tests, a, b', c, u, w)
 
-  pub spread_all : (xs : List X) (k y : ℕ) → ((j : ℕ) (e : X) → j < length xs → times y (f (slice_index_or xs j e)) ≡ in_range t n (k + j) y)
+  pub spread_all : (xs : List X) (k y : ℕ)
+      → ((j : ℕ) (e : X) → j < length xs → times y (f (slice_index_or xs j e)) ≡ in_range t n (k + j) y)
       → times y (flat_map f xs) ≡ cond (nat_lt y (start_of t n k)) 0 (cond (nat_lt y (start_of t n (k + length xs))) 1 0)
   spread_all [] k y h = let e : k + 0 ≡ k = omega arith in rw e (grind (arith, nat_tests))
   spread_all (x ∷ xs) k y h =
       let a : times y (f x) ≡ in_range t n k y = subst (λ i. times y (f x) ≡ in_range t n i y) (omega arith) (h 0 x (omega arith)) in
-      let b = spread_all xs (k + 1) y (λ j e lt. subst (λ i. times y (f (slice_index_or xs j e)) ≡ in_range t n i y) (omega arith) (h (suc j) e (omega (arith, lt)))) in
+      let b = spread_all xs (k + 1) y
+      (λ j e lt. subst (λ i. times y (f (slice_index_or xs j e)) ≡ in_range t n i y) (omega arith) (h (suc j) e (omega (arith, lt)))) in
       let c = times-append y (f x) (flat_map f xs) in
       let u = start_up t n k (k + 1) pos (omega arith) in
       let e : (k + 1) + length xs ≡ k + suc (length xs) = omega arith in
@@ -57,9 +61,11 @@ module _ {X : Type 0} (f : X → List ℕ) (t n : ℕ) (pos : 0 < n) where
       let w = start_up t n (k + 1) (k + suc (length xs)) pos (omega arith) in
       grind (arith, nat_tests, a, b', c, u, w)
 
-  pub each_once : (xs : List X) → length xs ≡ n → ((j y : ℕ) (e : X) → j < n → times y (f (slice_index_or xs j e)) ≡ in_range t n j y) → (y : ℕ) → times y (flat_map f xs) ≡ cond (nat_lt y t) 1 0
+  pub each_once : (xs : List X) → length xs ≡ n → ((j y : ℕ) (e : X) → j < n → times y (f (slice_index_or xs j e)) ≡ in_range t n j y)
+      → (y : ℕ) → times y (flat_map f xs) ≡ cond (nat_lt y t) 1 0
   each_once xs len h y =
-      let a = spread_all xs 0 y (λ j e lt. subst (λ i. times y (f (slice_index_or xs j e)) ≡ in_range t n i y) (omega arith) (h j y e (omega (arith, lt, len)))) in
+      let a = spread_all xs 0 y
+      (λ j e lt. subst (λ i. times y (f (slice_index_or xs j e)) ≡ in_range t n i y) (omega arith) (h j y e (omega (arith, lt, len)))) in
       let z = start_zero t n in
       let e : 0 + length xs ≡ n = omega (arith, len) in
       let a' = subst (λ i. times y (flat_map f xs) ≡ cond (nat_lt y (start_of t n 0)) 0 (cond (nat_lt y (start_of t n i)) 1 0)) e a in
@@ -67,7 +73,8 @@ module _ {X : Type 0} (f : X → List ℕ) (t n : ℕ) (pos : 0 < n) where
       grind (arith, nat_tests, a', z, l)
 
 module _ {X : Type 0} (f : X → List ℕ) where
-  pub none_of : (xs : List X) (y : ℕ) → ((j : ℕ) (e : X) → j < length xs → times y (f (slice_index_or xs j e)) ≡ 0) → times y (flat_map f xs) ≡ 0
+  pub none_of : (xs : List X) (y : ℕ) → ((j : ℕ) (e : X) → j < length xs → times y (f (slice_index_or xs j e)) ≡ 0)
+      → times y (flat_map f xs) ≡ 0
   none_of [] y h = refl
   none_of (x ∷ xs) y h =
       let a = h 0 x (omega arith) in
@@ -76,9 +83,11 @@ module _ {X : Type 0} (f : X → List ℕ) where
       omega (arith, a, b, c)
 
   -- one element is changed
-  pub times-set : (xs : List X) (q : ℕ) (e v : X) (y : ℕ) → q < length xs → times y (flat_map f (slice_set xs q v)) + times y (f (slice_index_or xs q e)) ≡ times y (flat_map f xs) + times y (f v)
+  pub times-set : (xs : List X) (q : ℕ) (e v : X) (y : ℕ) → q < length xs
+      → times y (flat_map f (slice_set xs q v)) + times y (f (slice_index_or xs q e)) ≡ times y (flat_map f xs) + times y (f v)
   times-set [] q e v y h = absurd (omega (arith, h))
-  times-set (x ∷ xs) zero e v y h = let a = times-append y (f v) (flat_map f xs) in let b = times-append y (f x) (flat_map f xs) in omega (arith, a, b)
+  times-set (x ∷ xs) zero e v y h = let a = times-append y (f v) (flat_map f xs) in let b = times-append y (f x) (flat_map f xs) in
+      omega (arith, a, b)
   times-set (x ∷ xs) (suc q) e v y h =
       let a = times-append y (f x) (flat_map f (slice_set xs q v)) in
       let b = times-append y (f x) (flat_map f xs) in

@@ -33,8 +33,8 @@ first = view (about 0 0 0) 0 1 [] false
 abbrev pub IsIdle : View → Type 0
 IsIdle v = (v ≡ first) ⊎ (v ≡ blank)
 
--- a view with weight knows which deque it is; where it is full all numbers were pushed, and before that it has the whole weight; it has no more end marks
--- than weight, and with no weight nothing
+-- a view with weight knows which deque it is; where it is full all numbers were pushed, and before that it has the whole weight; it has no
+-- more end marks than weight, and with no weight nothing
 abbrev pub IsView : About → ℕ → View → Type 0
 IsView a pushed v = (0 < v.weight → v.about ≡ a)
     × (v.full ≡ true → pushed ≡ a.end + a.passes)
@@ -63,7 +63,8 @@ MayTake v = (v.full ≡ true) × (v.weight ≡ 1) × (marks v.about.end v.list �
 
 -- one number came out, which this view had not, as no view has a number twice
 abbrev pub Took : View → List ℕ → View → Type 0
-Took v xs w = (x : ℕ) × (xs ≡ x ∷ []) × (w ≡ view v.about v.pushed v.weight (v.list ++ x ∷ []) true) × (v.about.start ≤ x) × (x < v.about.end + v.about.passes)
+Took v xs w = (x : ℕ) × (xs ≡ x ∷ []) × (w ≡ view v.about v.pushed v.weight (v.list ++ x ∷ []) true) × (v.about.start ≤ x)
+    × (x < v.about.end + v.about.passes)
     × ((y : ℕ) → times y w.list ≤ cond (nat_lt y v.about.start) 0 1)
 
 -- who has the whole weight and an end mark has all tasks

@@ -1,7 +1,9 @@
 -- What a pass of the deques is.
-use Rattle.std.specs.Prelude.{flat_map, ◌≡◌, ◌≢◌, ℕ, ◌+◌, ◌-◌, ◌<◌, ◌≤◌, Bool, true, false, cond, nat_lt, List, [], ◌∷◌, ◌++◌, length, slice_index_or, Option, Some, None}
+use Rattle.std.specs.Prelude.{flat_map, ◌≡◌, ◌≢◌, ℕ, ◌+◌, ◌-◌, ◌<◌, ◌≤◌, Bool, true, false, cond, nat_lt, List, [], ◌∷◌, ◌++◌, length}
+use Rattle.std.specs.Prelude.{slice_index_or, Option, Some, None}
 use Rattle.atomic_blocks.specs.Lent.{RowsId}
-use Rattle.crossbeam_deque.specs.Handles.{Pass, view as pass_view, IsPassOf as IsGuestOf, worker_deque, worker_flavor, worker_view, stealer_deque, stealer_flavor}
+use Rattle.crossbeam_deque.specs.Handles.{Pass, view as pass_view, IsPassOf as IsGuestOf, worker_deque, worker_flavor, worker_view}
+use Rattle.crossbeam_deque.specs.Handles.{stealer_deque, stealer_flavor}
 use Rattle.mr_base.specs.Tasks.{total_of, times, start_of, IsApartBelow}
 use Rattle.mr_deques.specs.declared.view.View.{View}
 use Rattle.mr_deques.specs.declared.deques.Deques.{Deques}
@@ -41,12 +43,14 @@ HasEndMark p = let v = worker_view p.own in marks v.about.end v.list ≡ 1
 
 -- a full view of deque q
 abbrev pub IsPart : Deques → ℕ → View → Type 0
-IsPart d q v = (v.about ≡ about (start_of (total_of d.ranges) (length d.ranges) q) (start_of (total_of d.ranges) (length d.ranges) (q + 1)) (length d.ranges)) × (v.full ≡ true)
+IsPart d q v = (v.about ≡ about (start_of (total_of d.ranges) (length d.ranges) q) (start_of (total_of d.ranges) (length d.ranges) (q + 1))
+    (length d.ranges)) × (v.full ≡ true)
     × ((y : ℕ) → y < start_of (total_of d.ranges) (length d.ranges) q → times y v.list ≡ 0)
 
 -- the view of deque q in a pass at work
 abbrev pub IsSeen : Deques → List Bool → ℕ → View → Type 0
-IsSeen d marked q v = IsPart d q v × (v.weight ≡ 1) × (marks v.about.end v.list ≡ cond (slice_index_or marked q false) 1 0) × ((y : ℕ) → times y v.list ≤ 1)
+IsSeen d marked q v =
+    IsPart d q v × (v.weight ≡ 1) × (marks v.about.end v.list ≡ cond (slice_index_or marked q false) 1 0) × ((y : ℕ) → times y v.list ≤ 1)
 
 abbrev pub IsGuest : {A : Type 0} → (View → Type 0) → RowsId × A → Option (Pass ℕ View A) → Type 0
 IsGuest F deque None = ⊥
@@ -61,10 +65,12 @@ pub record Holds (d : Deques) (i len : ℕ) (Own : View → Type 0) (Other : ℕ
   pub flavor : worker_flavor p.own ≡ 0
   pub own : Own (worker_view p.own)
   pub gap : slice_index_or p.guests.items i None ≡ None
-  pub guest : (q : ℕ) (t : _) → q < len → q ≢ i → IsGuest (Other q) (stealer_deque (slice_index_or d.thieves.items q t)) (slice_index_or p.guests.items q None)
+  pub guest : (q : ℕ) (t : _) → q < len → q ≢ i
+      → IsGuest (Other q) (stealer_deque (slice_index_or d.thieves.items q t)) (slice_index_or p.guests.items q None)
 
 abbrev pub IsSound : Deques → Type 0
-IsSound d = (length d.thieves.items ≡ length d.ranges) × ((q : ℕ) (t : _) → q < length d.ranges → stealer_flavor (slice_index_or d.thieves.items q t) ≡ 0)
+IsSound d = (length d.thieves.items ≡ length d.ranges)
+    × ((q : ℕ) (t : _) → q < length d.ranges → stealer_flavor (slice_index_or d.thieves.items q t) ≡ 0)
 
 pub record IsPassOf (d : Deques) (p : DequePass) : Type 0 where
   pub sound : IsSound d

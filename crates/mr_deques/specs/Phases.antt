@@ -14,13 +14,16 @@ pub record Sharing (d : Deques) (q w : ℕ) (ps : List DequePass) : Type 0 where
   pub length_is : length ps ≡ length d.ranges
   pub each : (i : ℕ) (e : DequePass) → i < length d.ranges
       → Holds d i (cond (nat_lt i w) (q + 1) q)
-      (λ v. IsPart d i v × (v.list ≡ []) × (i < q → v.weight ≡ 1) × (i ≡ q → v.weight + w ≡ length d.ranges + cond (nat_lt q w) 1 0) × (q < i → v.weight ≡ length d.ranges))
+      (λ v. IsPart d i v × (v.list ≡ []) × (i < q → v.weight ≡ 1) × (i ≡ q → v.weight + w ≡ length d.ranges + cond (nat_lt q w) 1 0)
+      × (q < i → v.weight ≡ length d.ranges))
       (λ j v. IsPart d j v × (v.list ≡ []) × (v.weight ≡ 1)) (slice_index_or ps i e)
-  pub unused : (i : ℕ) (e : DequePass) → i < length d.ranges → ((slice_index_or ps i e).ended ≡ false) × ((j : ℕ) → slice_index_or (slice_index_or ps i e).marked j false ≡ false)
+  pub unused : (i : ℕ) (e : DequePass) → i < length d.ranges
+      → ((slice_index_or ps i e).ended ≡ false) × ((j : ℕ) → slice_index_or (slice_index_or ps i e).marked j false ≡ false)
 
 -- who has each task of deque i
 abbrev pub IsWhole : Deques → ℕ → View → Type 0
-IsWhole d i v = (x : ℕ) → start_of (total_of d.ranges) (length d.ranges) i ≤ x → x < start_of (total_of d.ranges) (length d.ranges) (i + 1) → times x v.list ≡ 1
+IsWhole d i v = (x : ℕ) → start_of (total_of d.ranges) (length d.ranges) i ≤ x → x < start_of (total_of d.ranges) (length d.ranges) (i + 1)
+    → times x v.list ≡ 1
 
 -- while the views come together again: those of deque q from the first w passes are back
 pub record Joining (d : Deques) (q w : ℕ) (ps : List DequePass) : Type 0 where
@@ -28,7 +31,8 @@ pub record Joining (d : Deques) (q w : ℕ) (ps : List DequePass) : Type 0 where
   pub length_is : length ps ≡ length d.ranges
   pub each : (i : ℕ) (e : DequePass) → i < length d.ranges
       → Holds d i (cond (nat_lt i w) q (q + 1))
-      (λ v. IsPart d i v × (i < q → (v.weight ≡ 1) × (1 ≤ marks v.about.end v.list)) × (i ≡ q → (v.weight + cond (nat_lt q w) 1 0 ≡ w + 1) × (1 ≤ marks v.about.end v.list)) × (q < i → IsWhole d i v))
+      (λ v. IsPart d i v × (i < q → (v.weight ≡ 1) × (1 ≤ marks v.about.end v.list))
+      × (i ≡ q → (v.weight + cond (nat_lt q w) 1 0 ≡ w + 1) × (1 ≤ marks v.about.end v.list)) × (q < i → IsWhole d i v))
       (λ j v. IsPart d j v × (v.weight ≡ 1)) (slice_index_or ps i e)
 
 -- the deques from q on are done

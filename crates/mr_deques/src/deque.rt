@@ -1,7 +1,10 @@
 //! The steps on one deque, each with what it tells its caller.
-ghost use Rattle.std.specs.Prelude.{◌≡◌, ◌≢◌, ◌<◌, ◌≤◌, ◌+◌, ◌-◌, ◌==◌, [], ◌∷◌, ◌++◌, ℕ, List, true, false, IfOk, IsOk, IfSome, IsSomeAnd, MatchOption, MatchResult};
-ghost use Rattle.crossbeam_deque.specs.Handles.{view as pass_view, IsPassOf, SamePass, SameWorker, worker_deque, worker_flavor, stealer_deque, stealer_flavor, worker_view, worker_port, worker_index, worker_capacity};
+ghost use Rattle.std.specs.Prelude.{◌≡◌, ◌≢◌, ◌<◌, ◌≤◌, ◌+◌, ◌-◌, ◌==◌, [], ◌∷◌, ◌++◌, ℕ, List, true, false, IfOk, IsOk, IfSome, IsSomeAnd};
+ghost use Rattle.std.specs.Prelude.{MatchOption, MatchResult};
+ghost use Rattle.crossbeam_deque.specs.Handles.{view as pass_view, IsPassOf, SamePass, SameWorker, worker_deque, worker_flavor};
+ghost use Rattle.crossbeam_deque.specs.Handles.{stealer_deque, stealer_flavor, worker_view, worker_port, worker_index, worker_capacity};
 ghost use Rattle.crossbeam_deque.specs.Steals.{MatchSteal};
+ghost use Rattle.mr_defs.specs.Tasks.{most_tasks};
 ghost use Rattle.mr_deques.specs.Lawful.{view, blank, about, MayTake, Took, HasAll, marks};
 
 use crate::rule::{Begins, Deal, Last, Numbered, Puts, Takes, TasksThenMarks};
@@ -31,7 +34,8 @@ pub(crate) fn steal(thief: &Thief, guest: &mut Guest) -> Option<u32>
     requires deque { IsPassOf (stealer_deque thief.now) guest.old × (stealer_flavor thief.now ≡ 0) }
     requires may { MayTake (pass_view guest.old) }
     ensures same { SamePass guest.old guest.new }
-    ensures took { MatchOption result (pass_view guest.new ≡ pass_view guest.old) (λ x. Took (pass_view guest.old) (x ∷ []) (pass_view guest.new)) }
+    ensures took { MatchOption result (pass_view guest.new ≡ pass_view guest.old)
+        (λ x. Took (pass_view guest.old) (x ∷ []) (pass_view guest.new)) }
 {
     match thief.steal_as::<Takes>(guest) {
         Steal::Success(x) => Some(x),
@@ -42,8 +46,10 @@ pub(crate) fn steal(thief: &Thief, guest: &mut Guest) -> Option<u32>
 // Cuts weight 1 off for a pass that isn't the owner's.
 pub(crate) fn cut_off(owner: &mut Owner) -> Guest
     requires { let v = worker_view owner.old in (v.full ≡ true) × (2 ≤ v.weight) × (v.list ≡ []) }
-    ensures same { SameWorker owner.old owner.new × (worker_index owner.new ≡ worker_index owner.old) × IsPassOf (worker_deque owner.old) result }
-    ensures views { let v = worker_view owner.old in (worker_view owner.new ≡ view v.about v.pushed (v.weight - 1) v.list true) × (pass_view result ≡ view v.about v.pushed 1 [] true) }
+    ensures same { SameWorker owner.old owner.new × (worker_index owner.new ≡ worker_index owner.old)
+        × IsPassOf (worker_deque owner.old) result }
+    ensures views { let v = worker_view owner.old in
+        (worker_view owner.new ≡ view v.about v.pushed (v.weight - 1) v.list true) × (pass_view result ≡ view v.about v.pushed 1 [] true) }
 {
     owner.another::<Deal>()
 }
@@ -53,7 +59,8 @@ pub(crate) fn take_back(owner: &mut Owner, guest: Guest)
     requires deque { IsPassOf (worker_deque owner.old) guest }
     requires full { ((worker_view owner.old).full ≡ true) × (0 < (worker_view owner.old).weight) × ((pass_view guest).full ≡ true) }
     ensures same { SameWorker owner.old owner.new }
-    ensures views { let v = worker_view owner.old in let w = pass_view guest in worker_view owner.new ≡ view v.about v.pushed (v.weight + w.weight) (v.list ++ w.list) true }
+    ensures views { let v = worker_view owner.old in let w = pass_view guest in
+        worker_view owner.new ≡ view v.about v.pushed (v.weight + w.weight) (v.list ++ w.list) true }
 {
     owner.absorb::<Deal>(guest);
 }
@@ -63,7 +70,8 @@ pub(crate) fn last(owner: &mut Owner) -> Option<u32>
     requires flavor { worker_flavor owner.old ≡ 0 }
     requires all { ((worker_view owner.old).full ≡ true) × ((worker_view owner.old).weight ≡ (worker_view owner.old).about.passes) }
     ensures same { SameWorker owner.old owner.new }
-    ensures all { MatchOption result ((worker_view owner.new ≡ worker_view owner.old) × HasAll (worker_view owner.old)) (λ x. HasAll (worker_view owner.old) × Took (worker_view owner.old) (x ∷ []) (worker_view owner.new)) }
+    ensures all { MatchOption result ((worker_view owner.new ≡ worker_view owner.old) × HasAll (worker_view owner.old))
+        (λ x. HasAll (worker_view owner.old) × Took (worker_view owner.old) (x ∷ []) (worker_view owner.new)) }
 {
     owner.pop_as::<Last>()
 }
@@ -76,7 +84,7 @@ fn filled<J: Numbered>(
     passes: u32,
 ) -> Result<Owner, AllocError>
     requires about { J.about ≡ about start end passes }
-    requires range { (start ≤ end) × (end ≤ 1048576) × (0 < passes) × (passes ≤ 32) }
+    requires range { (start ≤ end) × (end ≤ most_tasks) × (0 < passes) × (passes ≤ 32) }
     ensures { IfOk result (λ o. (worker_flavor o ≡ 0) × (worker_view o ≡ view (about start end passes) (end + passes) passes [] true)) }
 {
     let mut owner = Owner::fifo_as(alloc, (end - start + passes) as usize)?;
@@ -93,7 +101,7 @@ fn filled<J: Numbered>(
 
 // A deque with its tasks and its end marks.
 pub(crate) fn fill(alloc: Global, start: u32, end: u32, passes: u32) -> Result<Owner, AllocError>
-    requires range { (start ≤ end) × (end ≤ 1048576) × (0 < passes) × (passes ≤ 32) }
+    requires range { (start ≤ end) × (end ≤ most_tasks) × (0 < passes) × (passes ≤ 32) }
     ensures { IfOk result (λ o. (worker_flavor o ≡ 0) × (worker_view o ≡ view (about start end passes) (end + passes) passes [] true)) }
 {
     filled::<Brand>(alloc, start, end, passes)

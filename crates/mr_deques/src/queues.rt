@@ -80,12 +80,14 @@ impl TaskQueues for Deques {
         Ok((deques, passes))
     }
 
-    /// Takes from the pass's own deque until its end mark comes, and then from the others, round their number: from each until a task or an end mark comes,
-    /// at most four times. None only where the pass has an end mark of its own deque.
+    /// Takes from the pass's own deque until its end mark comes, and then from the others, round their number: from each until a task or an
+    /// end mark comes, at most four times. None only where the pass has an end mark of its own deque.
     fn take(&self, pass: &mut DequePass) -> Option<u32>
         requires { IsPassOf self.now pass.old }
         ensures same { IsPassOf self.now pass.new × (number_of pass.new ≡ number_of pass.old) }
-        ensures some { IfSome result (λ t. (t < total_of self.now.ranges) × IsPermutation (given_to pass.old ++ t ∷ []) (given_to pass.new) × (has_ended pass.new ≡ has_ended pass.old)) }
+        ensures some { IfSome result
+            (λ t. (t < total_of self.now.ranges) × IsPermutation (given_to pass.old ++ t ∷ []) (given_to pass.new)
+            × (has_ended pass.new ≡ has_ended pass.old)) }
         ensures none { IfNone result ((given_to pass.new ≡ given_to pass.old) × (has_ended pass.new ≡ true)) }
         ensures later { has_ended pass.old ≡ true → IsNone result }
         ensures own_end { IfNone result (HasEndMark pass.new) }

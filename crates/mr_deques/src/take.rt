@@ -31,7 +31,8 @@ pub(crate) fn pop_own(deques: &Deques, pass: &mut DequePass) -> Option<u32>
 fn steal_once(deques: &Deques, pass: &mut DequePass, q: u32) -> Option<u32>
     requires pass { IsPassOf deques.now pass.old × (pass.old.ended ≡ false) × (has_mark pass.old pass.old.number ≡ true) }
     requires place { (q < length deques.now.ranges) × (q ≢ pass.old.number) × (has_mark pass.old q ≡ false) }
-    ensures same { IsPassOf deques.now pass.new × (pass.new.number ≡ pass.old.number) × (pass.new.ended ≡ false) × (has_mark pass.new pass.new.number ≡ true) }
+    ensures same { IsPassOf deques.now pass.new × (pass.new.number ≡ pass.old.number) × (pass.new.ended ≡ false)
+        × (has_mark pass.new pass.new.number ≡ true) }
     ensures some { IfSome result (λ t. (t < total_of deques.now.ranges) × IsPermutation (given_to pass.old ++ t ∷ []) (given_to pass.new)) }
     ensures none { IfNone result (given_to pass.new ≡ given_to pass.old) }
 {
@@ -55,7 +56,8 @@ fn steal_once(deques: &Deques, pass: &mut DequePass, q: u32) -> Option<u32>
 pub(crate) fn steal_from(deques: &Deques, pass: &mut DequePass, q: u32) -> Option<u32>
     requires pass { IsPassOf deques.now pass.old × (pass.old.ended ≡ false) × (has_mark pass.old pass.old.number ≡ true) }
     requires place { (q < length deques.now.ranges) × (q ≢ pass.old.number) }
-    ensures same { IsPassOf deques.now pass.new × (pass.new.number ≡ pass.old.number) × (pass.new.ended ≡ false) × (has_mark pass.new pass.new.number ≡ true) }
+    ensures same { IsPassOf deques.now pass.new × (pass.new.number ≡ pass.old.number) × (pass.new.ended ≡ false)
+        × (has_mark pass.new pass.new.number ≡ true) }
     ensures some { IfSome result (λ t. (t < total_of deques.now.ranges) × IsPermutation (given_to pass.old ++ t ∷ []) (given_to pass.new)) }
     ensures none { IfNone result (given_to pass.new ≡ given_to pass.old) }
 {

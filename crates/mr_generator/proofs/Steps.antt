@@ -1,5 +1,6 @@
 -- One word more of a generated text, and one byte more of a mark.
-use Rattle.std.proofs.Common.{◌≡◌, ℕ, suc, ◌+◌, ◌-◌, ◌*◌, ◌%◌, List, [], ◌∷◌, ◌++◌, length, get_or, sym, ap, ◌∙◌, arith, append_assoc, append-nil}
+use Rattle.std.proofs.Common.{◌≡◌, ℕ, suc, ◌+◌, ◌-◌, ◌*◌, ◌%◌, List, [], ◌∷◌, ◌++◌, length, get_or, sym, ap, ◌∙◌, arith, append_assoc}
+use Rattle.std.proofs.Common.{append-nil}
 use Rattle.std.specs.Prelude.{flat_map, sum_by, decimal}
 use Rattle.std.specs.List.{enumerate_from}
 use Rattle.std.proofs.lemmas.List.FromFn.{map-range_with_len_more, get_or-map-range_with_len, length-map-range_with_len}
@@ -9,7 +10,8 @@ use Rattle.mr_items.specs.Generator.{word_of, generated}
 use Rattle.mr_items.specs.Texts.{line}
 use Rattle.mr_generator.specs.Words.{words_below}
 
-pub words_more : (words after : List (List ℕ)) (n : ℕ) (word : List ℕ) → words ≡ words_below n → word ≡ word_of n → after ≡ words ++ word ∷ [] → after ≡ words_below (n + 1)
+pub words_more : (words after : List (List ℕ)) (n : ℕ) (word : List ℕ) → words ≡ words_below n → word ≡ word_of n
+    → after ≡ words ++ word ∷ [] → after ≡ words_below (n + 1)
 unfolding words_below
 words_more words after n word so_far is grown =
     grown ∙ (λ i. so_far i ++ is i ∷ []) ∙ sym (map-range_with_len_more word_of 0 n n (omega arith))
@@ -36,7 +38,8 @@ word_at words x d all =
 abbrev pub words_from : ℕ → ℕ → List ℕ
 words_from n state = flat_map word_of (first_words mix_u64 n state)
 
-pub words_step : (text after : List ℕ) (n m state output next : ℕ) → n ≡ suc m → (output, next) ≡ mix_u64 state → after ≡ text ++ word_of output
+pub words_step : (text after : List ℕ) (n m state output next : ℕ) → n ≡ suc m → (output, next) ≡ mix_u64 state
+    → after ≡ text ++ word_of output
     → after ++ words_from m next ≡ text ++ words_from n state
 unfolding first_words
 words_step text after n m state output next e step grown =
@@ -45,7 +48,8 @@ words_step text after n m state output next e step grown =
     ∙ ap (λ (p : ℕ × ℕ). text ++ (word_of p.0 ++ words_from m p.1)) step
     ∙ ap (λ k. text ++ words_from k state) (sym e)
 
-pub words_first : (text : List ℕ) (count seed state : ℕ) → text ≡ [] → state ≡ seed → text ++ words_from (count - 0) state ≡ generated seed count
+pub words_first : (text : List ℕ) (count seed state : ℕ) → text ≡ [] → state ≡ seed
+    → text ++ words_from (count - 0) state ≡ generated seed count
 unfolding generated
 words_first text count seed state none same =
     ap (λ t. t ++ words_from (count - 0) state) none ∙ ap (λ k. words_from k state) all ∙ ap (words_from count) same

@@ -33,8 +33,8 @@ fn push_counted(text: &mut Text, name: &[u8], number: u128) -> Result<(), Memory
     text.push(b"\n")
 }
 
-/// The summary of a generated text of so many bytes, of which a job has so many rows with this text: four lines with the length of the text, the
-/// number of the rows, the length of their text and its mark, the sum of each byte times its place counted from 1.
+/// The summary of a generated text of so many bytes, of which a job has so many rows with this text: four lines with the length of the
+/// text, the number of the rows, the length of their text and its mark, the sum of each byte times its place counted from 1.
 ///
 /// A text of rows of more than 2 ^ 56 bytes, which is in no memory, is answered as want of memory.
 pub fn summary(alloc: Global, input: usize, rows: usize, output: &Text) -> Result<Text, Memory>

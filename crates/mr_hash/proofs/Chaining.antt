@@ -18,12 +18,15 @@ pub record IsChainedFrom (at parts : ℕ) (heads links buckets : List ℕ) : Typ
   pub long_links : length links ≡ length buckets
   pub inside : at ≤ length buckets
   pub beyond : (part : ℕ) → part < parts → at ≤ get_or heads part 0
-  pub first : (part place : ℕ) → part < parts → at ≤ place → place < length buckets → place < get_or heads part 0 → get_or buckets place 0 % parts ≢ part
-  pub next : (place between : ℕ) → at ≤ place → place < length buckets → place < between → between < length buckets → between < get_or links place 0
+  pub first : (part place : ℕ) → part < parts → at ≤ place → place < length buckets → place < get_or heads part 0
+      → get_or buckets place 0 % parts ≢ part
+  pub next : (place between : ℕ) → at ≤ place → place < length buckets → place < between → between < length buckets
+      → between < get_or links place 0
       → get_or buckets between 0 % parts ≢ get_or buckets place 0 % parts
   pub later : (place : ℕ) → at ≤ place → place < length buckets → place < get_or links place 0
 
-pub chained_none : (parts far : ℕ) (heads links buckets : List ℕ) → heads ≡ replicate parts far → length links ≡ length buckets → length buckets ≤ far → IsChainedFrom (length buckets) parts heads links buckets
+pub chained_none : (parts far : ℕ) (heads links buckets : List ℕ) → heads ≡ replicate parts far → length links ≡ length buckets
+    → length buckets ≤ far → IsChainedFrom (length buckets) parts heads links buckets
 chained_none parts far heads links buckets e long fits = record {
   long_heads = ap length e ∙ length-replicate {A = ℕ} parts far;
   long_links = long;
@@ -36,12 +39,15 @@ chained_none parts far heads links buckets e long fits = record {
 
 pub all_chained : (parts : ℕ) (heads links buckets : List ℕ) → IsChainedFrom 0 parts heads links buckets → IsChained heads links buckets
 all_chained parts heads links buckets was = record {
-  first = λ part place p q h. subst (λ n. get_or buckets place 0 % n ≢ part) (sym was.long_heads) (was.first part place (omega (arith, p, was.long_heads)) (omega arith) q h);
-  next = λ place between s p q r h. subst (λ n. get_or buckets between 0 % n ≢ get_or buckets place 0 % n) (sym was.long_heads) (was.next place between (omega arith) (omega (arith, p, was.long_links)) q r h);
+  first = λ part place p q h. subst (λ n. get_or buckets place 0 % n ≢ part) (sym was.long_heads)
+      (was.first part place (omega (arith, p, was.long_heads)) (omega arith) q h);
+  next = λ place between s p q r h. subst (λ n. get_or buckets between 0 % n ≢ get_or buckets place 0 % n) (sym was.long_heads)
+      (was.next place between (omega arith) (omega (arith, p, was.long_links)) q r h);
   later = λ place s p. was.later place (omega arith) (omega (arith, p, was.long_links));
 }
 
-module _ (at parts part : ℕ) (heads links buckets : List ℕ) (was : IsChainedFrom (at + 1) parts heads links buckets) (own : get_or buckets at 0 % parts ≡ part) (some : part < parts) where
+module _ (at parts part : ℕ) (heads links buckets : List ℕ) (was : IsChainedFrom (at + 1) parts heads links buckets)
+    (own : get_or buckets at 0 % parts ≡ part) (some : part < parts) where
   within : at < length links
   within = omega (arith, was.long_links, was.inside)
 
@@ -69,7 +75,8 @@ module _ (at parts part : ℕ) (heads links buckets : List ℕ) (was : IsChained
         (λ is same. e (sym same ∙ ap (λ n. get_or buckets n 0 % parts) is ∙ own))
         (λ other. was.first p place l (omega (arith, a, other)) b (omega (arith, h, get_or-set_other heads part p at 0 e))));
     next = λ place between a l m b h. same_or place at
-        (λ is. subst (λ n. get_or buckets between 0 % parts ≢ get_or buckets n 0 % parts) (sym is) (subst (λ n. get_or buckets between 0 % parts ≢ n) (sym own)
+        (λ is. subst (λ n. get_or buckets between 0 % parts ≢ get_or buckets n 0 % parts) (sym is)
+        (subst (λ n. get_or buckets between 0 % parts ≢ n) (sym own)
         (was.first part between some (omega (arith, m, is)) b (omega (arith, h, here place is)))))
         (λ other. was.next place between (omega (arith, a, other)) l m b (omega (arith, h, there place other)));
     later = λ place a l. same_or place at

@@ -1,5 +1,6 @@
 -- One more place in an index.
-use Rattle.std.proofs.Common.{◌≡◌, ◌≢◌, ℕ, zero, suc, true, false, cond, nat_eq, nat_lt, eq-eqb, ◌+◌, ◌-◌, ◌/◌, ◌^◌, ◌<◌, ◌≤◌, List, [], ◌∷◌, ◌++◌, length, get_or, set, inl, inr, refl, sym, ap, subst, ◌∙◌, arith, replicate}
+use Rattle.std.proofs.Common.{◌≡◌, ◌≢◌, ℕ, zero, suc, true, false, cond, nat_eq, nat_lt, eq-eqb, ◌+◌, ◌-◌, ◌/◌, ◌^◌, ◌<◌, ◌≤◌, List, []}
+use Rattle.std.proofs.Common.{◌∷◌, ◌++◌, length, get_or, set, inl, inr, refl, sym, ap, subst, ◌∙◌, arith, replicate}
 use Rattle.std.proofs.lemmas.List.{get_or_append_left, get_or-set_same, get_or-set_other, length-set, length-append, length-replicate}
 use Rattle.std.proofs.Math.Seq.{get_or-append_seam}
 use Rattle.std.proofs.lemmas.Bool.Decides.{eqb_tells}
@@ -17,7 +18,8 @@ unfolding word_of
 word_some size code place = omega arith
 
 -- how many slots hold something
-used_set : (index : List ℕ) (at value : ℕ) → at < length index → get_or index at 0 ≡ 0 → 1 ≤ value → used (set index at value) ≡ used index + 1
+used_set : (index : List ℕ) (at value : ℕ) → at < length index → get_or index at 0 ≡ 0 → 1 ≤ value
+    → used (set index at value) ≡ used index + 1
 used_set [] at value h e s = absurd (omega (arith, h))
 used_set (v ∷ vs) zero value h e s =
     elim (eqb_tells value 0) [ inl z ↦ absurd (omega (arith, z.1, s)) | inr n ↦ ap (λ t. cond t (used vs) (used vs + 1)) n.0 ]
@@ -46,20 +48,26 @@ reached size shift code at h =
       | inl before ↦ (
         at + (size - first_of size shift code),
         omega (arith, first, before, h),
-        ap (λ t. cond t (first_of size shift code + (at + (size - first_of size shift code))) ((at + (size - first_of size shift code)) - (size - first_of size shift code))) (not_lt _ _ (omega (arith, first, before, h))) ∙ omega (arith, first, before, h),
+        ap (λ t. cond t (first_of size shift code + (at + (size - first_of size shift code)))
+            ((at + (size - first_of size shift code)) - (size - first_of size shift code))) (not_lt _ _ (omega (arith, first, before, h)))
+            ∙ omega (arith, first, before, h),
       )
       | inr after ↦ (
         at - first_of size shift code,
         omega (arith, first, after, h),
-        ap (λ t. cond t (first_of size shift code + (at - first_of size shift code)) ((at - first_of size shift code) - (size - first_of size shift code))) (lt-ltb _ _ (omega (arith, first, after, h))) ∙ omega (arith, first, after, h),
+        ap (λ t. cond t (first_of size shift code + (at - first_of size shift code))
+            ((at - first_of size shift code) - (size - first_of size shift code))) (lt-ltb _ _ (omega (arith, first, after, h)))
+            ∙ omega (arith, first, after, h),
       )
     ]
   where
     not_lt : (a b : ℕ) → b ≤ a → nat_lt a b ≡ false
-    not_lt a b p = elim (nat_lt a b) as (λ t. nat_lt a b ≡ t → t ≡ false) [ true ↦ λ e. absurd (omega (arith, p, ltb-true a b e)) | false ↦ λ e. refl ] refl
+    not_lt a b p = elim (nat_lt a b) as (λ t. nat_lt a b ≡ t
+        → t ≡ false) [ true ↦ λ e. absurd (omega (arith, p, ltb-true a b e)) | false ↦ λ e. refl ] refl
 
 -- where there is room, some slot of the code has nothing
-pub room_found : (shift : ℕ) (index : List ℕ) (code : ℕ) → used index < length index → ((distance : ℕ) → distance < length index → get_or index (slot_of (length index) shift code distance) 0 ≢ 0) → ⊥
+pub room_found : (shift : ℕ) (index : List ℕ) (code : ℕ) → used index < length index
+    → ((distance : ℕ) → distance < length index → get_or index (slot_of (length index) shift code distance) 0 ≢ 0) → ⊥
 room_found shift index code room all = omega (
   arith,
   room,
@@ -106,7 +114,8 @@ module _ (size shift : ℕ) (index codes : List ℕ) where
 
     -- the slots of the new place are not its own before it
     not_there : (place distance : ℕ) → place ≡ length codes
-        → get_or (set index at new) (slot_of size shift (get_or (codes ++ code ∷ []) place 0) distance) 0 ≢ word_of size (get_or (codes ++ code ∷ []) place 0) place
+        → get_or (set index at new) (slot_of size shift (get_or (codes ++ code ∷ []) place 0) distance) 0
+        ≢ word_of size (get_or (codes ++ code ∷ []) place 0) place
         → slot_of size shift code distance ≢ at
     not_there place distance e h is = h (
         changed at new _ inside (ap (λ c. slot_of size shift c distance) (new_code place e) ∙ is)
@@ -114,9 +123,12 @@ module _ (size shift : ℕ) (index codes : List ℕ) where
         )
 
     old_there : (place distance : ℕ) → place < length codes
-        → get_or (set index at new) (slot_of size shift (get_or (codes ++ code ∷ []) place 0) distance) 0 ≢ word_of size (get_or (codes ++ code ∷ []) place 0) place
+        → get_or (set index at new) (slot_of size shift (get_or (codes ++ code ∷ []) place 0) distance) 0
+        ≢ word_of size (get_or (codes ++ code ∷ []) place 0) place
         → get_or index (slot_of size shift (get_or codes place 0) distance) 0 ≢ word_of size (get_or codes place 0) place
-    old_there place distance p h = other (get_or codes place 0) place _ (subst (λ c. get_or (set index at new) (slot_of size shift c distance) 0 ≢ word_of size c place) (old_code place p) h)
+    old_there place distance p h = other
+        (get_or codes place 0) place
+        _ (subst (λ c. get_or (set index at new) (slot_of size shift c distance) 0 ≢ word_of size c place) (old_code place p) h)
 
     pub indexed_more : Indexed size shift (set index at new) (codes ++ code ∷ [])
     indexed_more = record {
@@ -144,7 +156,8 @@ indexed_none size shift = record {
 }
 
 -- the first slot with nothing is free
-pub free_here : (shift : ℕ) (index : List ℕ) (code distance : ℕ) → distance < length index → slot_of (length index) shift code distance < length index
+pub free_here : (shift : ℕ) (index : List ℕ) (code distance : ℕ) → distance < length index
+    → slot_of (length index) shift code distance < length index
     → ((nearer : ℕ) → nearer < distance → get_or index (slot_of (length index) shift code nearer) 0 ≢ 0)
     → get_or index (slot_of (length index) shift code distance) 0 ≡ 0
     → IsFree (length index) shift index code (slot_of (length index) shift code distance)

@@ -9,7 +9,8 @@ first_of size shift code = bit_and (code / 2 ^ shift) (size - 1)
 
 -- the slot that is tried at a distance: from the first one on, and round
 unfoldable pub slot_of : ℕ → ℕ → ℕ → ℕ → ℕ
-slot_of size shift code distance = cond (nat_lt distance (size - first_of size shift code)) (first_of size shift code + distance) (distance - (size - first_of size shift code))
+slot_of size shift code distance = cond (nat_lt distance (size - first_of size shift code)) (first_of size shift code + distance)
+    (distance - (size - first_of size shift code))
 
 -- the bits of a code that no place of so many slots reaches
 abbrev pub tag_of : ℕ → ℕ → ℕ
@@ -30,10 +31,12 @@ module _ (size shift : ℕ) where
     pub long : length index ≡ size
     pub count : used index ≡ length codes
     pub before : (place distance : ℕ) → place < length codes → distance < size
-        → ((nearer : ℕ) → nearer ≤ distance → slice_index index (slot_of size shift (slice_index codes place) nearer) ≢ word_of size (slice_index codes place) place)
+        → ((nearer : ℕ) → nearer ≤ distance
+        → slice_index index (slot_of size shift (slice_index codes place) nearer) ≢ word_of size (slice_index codes place) place)
         → slice_index index (slot_of size shift (slice_index codes place) distance) ≢ 0
     pub there : (place : ℕ) → place < length codes
-        → ((distance : ℕ) → distance < size → slice_index index (slot_of size shift (slice_index codes place) distance) ≢ word_of size (slice_index codes place) place)
+        → ((distance : ℕ) → distance < size
+        → slice_index index (slot_of size shift (slice_index codes place) distance) ≢ word_of size (slice_index codes place) place)
         → ⊥
 
   -- the first slot with nothing that is tried for the code

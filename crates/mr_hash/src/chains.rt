@@ -5,8 +5,8 @@ use crate::ahead::NOWHERE;
 use mr_base::Memory;
 use std::alloc::Global;
 
-/// For each partition the place of its first entry, and for each entry the place of the next one of its partition. Where there is none it is a number
-/// past all places. With no heads it tells nothing.
+/// For each partition the place of its first entry, and for each entry the place of the next one of its partition. Where there is none it
+/// is a number past all places. With no heads it tells nothing.
 #[derive(Drop)]
 pub struct Chains {
     pub heads: Vec<u32>,

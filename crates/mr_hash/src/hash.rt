@@ -1,5 +1,6 @@
 ghost use Rattle.std.specs.Prelude.{◌≡◌, ◌&&◌, ◌≤◌, ◌%◌, ◌∷◌, ◌++◌, [], ℕ, true, is_some, length, Option, Some, None, IfOk, OnOk, OnErr};
 ghost use Rattle.std.specs.FinMap.{find};
+ghost use Rattle.mr_defs.specs.Limits.{greatest_capacity};
 ghost use Rattle.mr_defs.specs.Stands.{StandsFor};
 ghost use Rattle.mr_base.specs.Noting.{noted_of};
 ghost use Rattle.std.proofs.Common.{ap, refl};
@@ -33,7 +34,7 @@ impl<K: Key, C: Combiner, const N: usize> HashLocal<K, C, N> {
     /// A local with no cell.
     pub fn new(alloc: Global) -> Result<HashLocal<K, C, N>, Memory>
         requires some { 1 ≤ N }
-        requires few { N ≤ 65536 }
+        requires few { N ≤ greatest_capacity }
         ensures empty { IfOk result (λ local. ⟦<HashLocal<K, C, N> as Local>⟧.stands local []) }
         ensures inside { (k : K) → ⟦<HashLocal<K, C, N> as Parted>⟧.inside k ≡ true }
         ensures parts { (parts : ℕ) (k : K) → ⟦<HashLocal<K, C, N> as Parted>⟧.part_of parts k ≡ K.hash_of k % N % parts }
@@ -53,13 +54,15 @@ impl<K: Key, C: Combiner, const N: usize> Near for HashLocal<K, C, N> {
 
     type Value = C::Value;
 
-    ghost stands = { λ s es. StandsFor K.cmp (λ _. true) C.unit_of C.merged (λ k. find K.cmp k (pairs_of s.table.entries.items)) (length s.table.entries.items) (noted_of s.faults.value) es };
+    ghost stands = { λ s es. StandsFor K.cmp (λ _. true) C.unit_of C.merged (λ k. find K.cmp k (pairs_of s.table.entries.items))
+        (length s.table.entries.items) (noted_of s.faults.value) es };
 
     ghost same = { λ s t. (t.table.entries.items ≡ s.table.entries.items) × (noted_of t.faults.value ≡ noted_of s.faults.value) };
 
     ghost spares = { λ s k. C.fixed && is_some (find K.cmp k (pairs_of s.table.entries.items)) };
 
-    ghost same_keeps = { λ s t e. kept K.cmp (λ _. true) C.unit_of C.merged _ _ _ _ _ _ (λ k. ap (λ es. find K.cmp k (pairs_of es)) e.0) (ap length e.0) e.1 };
+    ghost same_keeps = { λ s t e. kept K.cmp (λ _. true) C.unit_of C.merged _ _ _ _ _ _ (λ k. ap (λ es. find K.cmp k (pairs_of es)) e.0)
+        (ap length e.0) e.1 };
 
     #[inline(always)]
     fn emit_near(&mut self, near: usize, key: K, value: C::Value) -> Result<(), Memory> {

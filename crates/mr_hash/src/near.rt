@@ -22,7 +22,8 @@ pub trait Near {
     fn emit_near(&mut self, near: usize, key: Self::Key, value: Self::Value) -> Result<(), Memory>
         requires key { Self.Key.allowed key }
         requires value { Self.Value.allowed value }
-        ensures ok { OnOk result ((es : List (Emission Self.Key Self.Value)) → stands self.old es → stands self.new (es ++ Pair key value ∷ [])) }
+        ensures ok { OnOk result
+            ((es : List (Emission Self.Key Self.Value)) → stands self.old es → stands self.new (es ++ Pair key value ∷ [])) }
         ensures err { OnErr result (same self.old self.new) }
         ensures no_memory { IsTrue (spares self.old key) → IsOk result }
         ensures spares { (k : Self.Key) → IsTrue (spares self.old k) → IsTrue (spares self.new k) };
@@ -38,7 +39,8 @@ pub fn emit_all<L: Near>(
     block: &mut Vec<(L::Key, L::Value)>,
 ) -> Result<(), Memory>
     requires { All (λ p. L.Key.allowed p.0 × L.Value.allowed p.1) block.old.items }
-    ensures ok { OnOk result ((es : List (Emission L.Key L.Value)) → L.stands local.old es → L.stands local.new (es ++ block_emissions block.old.items)) }
+    ensures ok { OnOk result
+        ((es : List (Emission L.Key L.Value)) → L.stands local.old es → L.stands local.new (es ++ block_emissions block.old.items)) }
     ensures err { OnErr result ((es : List (Emission L.Key L.Value)) → L.stands local.old es
         → (n : ℕ) × L.stands local.new (es ++ take n (block_emissions block.old.items))) }
     ensures no_memory { All (λ p. IsTrue (L.spares local.old p.0)) block.old.items → IsOk result }

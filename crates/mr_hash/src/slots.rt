@@ -7,7 +7,8 @@ use mr_base::{Key, Memory};
 use std::alloc::Global;
 
 /// The slot that is tried for a code at this distance, in an index of so many slots: from a first one on, and round.
-// The first one is told by the highest bits of the code, which depend on the whole key; a mask keeps it in where the shift leaves more of them.
+// The first one is told by the highest bits of the code, which depend on the whole key; a mask keeps it in where the shift leaves more of
+// them.
 #[inline(always)]
 #[tactic(auto, unfolding(crate::specs::Slots::slot_of))]
 pub fn slot_at(size: usize, shift: u32, code: u64, distance: usize) -> usize

@@ -1,9 +1,11 @@
-ghost use Rattle.std.specs.Prelude.{◌≡◌, ◌<◌, ◌≤◌, ◌∷◌, ◌++◌, ◌+◌, ◌*◌, [], ◌%◌, ℕ, true, cond, is_some, length, map, vec_len, vec_capacity, Option, Some, None, IfOk, IsOk, OnOk, OnErr, MatchOption, slice_index};
+ghost use Rattle.std.specs.Prelude.{◌≡◌, ◌<◌, ◌≤◌, ◌∷◌, ◌++◌, ◌+◌, ◌*◌, [], ◌%◌, ℕ, true, cond, is_some, length, map, vec_len};
+ghost use Rattle.std.specs.Prelude.{vec_capacity, Option, Some, None, IfOk, IsOk, OnOk, OnErr, MatchOption, slice_index};
 ghost use Rattle.std.specs.List.{HoldsAt, IsDistinct, IsDistinct-prop};
 ghost use Rattle.std.specs.FinMap.{find};
 ghost use Rattle.std.specs.Ordering.{eq_by_cmp};
 ghost use Rattle.std.specs.declared.cmp.Ordering.TheVariants.{Equal};
 ghost use Rattle.mr_defs.specs.Commutative.{joined};
+ghost use Rattle.mr_defs.specs.Limits.{greatest_capacity};
 ghost use Rattle.mr_hash.specs.Chaining.{IsChained, IsChained-prop};
 ghost use Rattle.mr_hash.specs.Pairs.{pairs_of, keys_of};
 ghost use Rattle.mr_hash.specs.Slots.{Indexed, Indexed-prop};
@@ -37,7 +39,7 @@ pub struct Table<K: Key, C: Combiner, const N: usize> {
     // By so many bits a code is moved down to tell its first slot: as the index grows twice as long, one less.
     shift: u32,
     ghost some_buckets: { 1 ≤ N },
-    ghost few_buckets: { N ≤ 65536 },
+    ghost few_buckets: { N ≤ greatest_capacity },
     ghost half: { 2 * vec_len entries ≤ vec_len index },
     ghost some_slots: { 16 ≤ vec_len index },
     ghost few_slots: { vec_len index ≤ 4294967296 },
@@ -52,7 +54,7 @@ impl<K: Key, C: Combiner, const N: usize> Table<K, C, N> {
     /// A table with no entry.
     pub fn new(alloc: Global) -> Result<Table<K, C, N>, Memory>
         requires some { 1 ≤ N }
-        requires few { N ≤ 65536 }
+        requires few { N ≤ greatest_capacity }
         ensures { IfOk result (λ table. table.entries.items ≡ []) }
     {
         let index = empty_index(alloc, FEWEST_SLOTS)?;
@@ -65,7 +67,8 @@ impl<K: Key, C: Combiner, const N: usize> Table<K, C, N> {
         })
     }
 
-    /// Combines the value into the cell of its key, which may stand at the place that is near. After `Memory` the entries and the index are unchanged.
+    /// Combines the value into the cell of its key, which may stand at the place that is near. After `Memory` the entries and the index are
+    /// unchanged.
     #[inline(always)]
     pub fn emit(
         &mut self,
@@ -76,9 +79,11 @@ impl<K: Key, C: Combiner, const N: usize> Table<K, C, N> {
     ) -> Result<(), Memory>
         requires value { C.Value.allowed value }
         ensures cells { OnOk result ((q : K) → find K.cmp q (pairs_of self.new.entries.items)
-            ≡ cond (eq_by_cmp K.cmp q key) (joined C.merged (find K.cmp key (pairs_of self.old.entries.items)) (Some (C.unit_of value))) (find K.cmp q (pairs_of self.old.entries.items))) }
+            ≡ cond (eq_by_cmp K.cmp q key) (joined C.merged (find K.cmp key (pairs_of self.old.entries.items)) (Some (C.unit_of value)))
+            (find K.cmp q (pairs_of self.old.entries.items))) }
         ensures len { OnOk result (length self.new.entries.items
-            ≡ cond (is_some (find K.cmp key (pairs_of self.old.entries.items))) (length self.old.entries.items) (length self.old.entries.items + 1)) }
+            ≡ cond (is_some (find K.cmp key (pairs_of self.old.entries.items))) (length self.old.entries.items)
+            (length self.old.entries.items + 1)) }
         ensures err { OnErr result (self.new.entries.items ≡ self.old.entries.items) }
         ensures index { OnErr result (self.new.index.items ≡ self.old.index.items) }
         ensures no_memory { C.fixed ≡ true → is_some (find K.cmp key (pairs_of self.old.entries.items)) ≡ true → IsOk result }
@@ -100,7 +105,8 @@ impl<K: Key, C: Combiner, const N: usize> Table<K, C, N> {
     #[inline(always)]
     fn find(&self, near: usize, key: &K) -> Option<usize>
         ensures within { MatchOption result (Unit {0}) (λ at. at < vec_len self.now.entries) }
-        ensures place { MatchOption result (find K.cmp key.now (pairs_of self.now.entries.items) ≡ None) (λ at. HoldsAt (λ e. K.cmp key.now e.key ≡ Equal) self.now.entries.items at) }
+        ensures place { MatchOption result (find K.cmp key.now (pairs_of self.now.entries.items) ≡ None)
+            (λ at. HoldsAt (λ e. K.cmp key.now e.key ≡ Equal) self.now.entries.items at) }
     {
         if near < self.entries.len() && *key == self.entries[near].key {
             return Some(near);
@@ -112,7 +118,8 @@ impl<K: Key, C: Combiner, const N: usize> Table<K, C, N> {
     #[inline(never)]
     fn search(&self, key: &K) -> Option<usize>
         ensures within { MatchOption result (Unit {0}) (λ at. at < vec_len self.now.entries) }
-        ensures place { MatchOption result (find K.cmp key.now (pairs_of self.now.entries.items) ≡ None) (λ at. HoldsAt (λ e. K.cmp key.now e.key ≡ Equal) self.now.entries.items at) }
+        ensures place { MatchOption result (find K.cmp key.now (pairs_of self.now.entries.items) ≡ None)
+            (λ at. HoldsAt (λ e. K.cmp key.now e.key ≡ Equal) self.now.entries.items at) }
     {
         let code = key.code();
         let size = self.index.len();
@@ -203,7 +210,8 @@ impl<K: Key, C: Combiner, const N: usize> Table<K, C, N> {
 
     /// A place before which no entry is one of the partition.
     pub fn first_place(&self, part: u32, parts: u32) -> u64
-        ensures { (place : ℕ) → place < length self.now.buckets.items → place < result → slice_index self.now.buckets.items place % parts ≢ part }
+        ensures { (place : ℕ) → place < length self.now.buckets.items → place < result
+            → slice_index self.now.buckets.items place % parts ≢ part }
     {
         let heads = &self.chains.heads;
         if heads.len() == parts as usize && (part as usize) < heads.len() {
@@ -233,7 +241,7 @@ impl<K: Key, C: Combiner, const N: usize> Table<K, C, N> {
 // The bucket of a key: its hash modulo N.
 fn bucket_of<K: Key, const N: usize>(key: &K) -> u16
     requires some { 1 ≤ N }
-    requires few { N ≤ 65536 }
+    requires few { N ≤ greatest_capacity }
     ensures { result ≡ K.hash_of key.now % N }
 {
     (key.hash() % N as u64) as u16

@@ -55,7 +55,8 @@ pixels_past_the_end = refl
 top_row_first : bitmap_fault_of (set (set (set (set one_pixel 22 255) 23 255) 24 255) 25 255) ≡ None
 top_row_first = refl
 
-greatest_sides : bitmap_fault_of (set (set (set (set (set (set (set (set one_pixel 18 255) 19 255) 20 255) 21 127) 22 0) 23 0) 24 0) 25 128) ≡ Some bitmap.Pixels
+greatest_sides : bitmap_fault_of
+    (set (set (set (set (set (set (set (set one_pixel 18 255) 19 255) 20 255) 21 127) 22 0) 23 0) 24 0) 25 128) ≡ Some bitmap.Pixels
 greatest_sides = refl
 
 ragged_line : grid_of (codes "1 2\n3\n") ≡ Err (grid.Ragged 4)

@@ -27,12 +27,14 @@ unfolding digits
 sums_by_name = refl
 
 sum_over :
-    one_round_of byte_order all_inside false sum_folded (rows_text (λ k. k)) (fold_lines_emissions bytes_key (codes "a 9223372036854775807\na -1\n"))
+    one_round_of byte_order all_inside false sum_folded (rows_text (λ k. k))
+    (fold_lines_emissions bytes_key (codes "a 9223372036854775807\na -1\n"))
     ≡ Err (fault.Over (codes "a"))
 sum_over = refl
 
 greatest_sum :
-    one_round_of byte_order all_inside false sum_folded (rows_text (λ k. k)) (fold_lines_emissions bytes_key (codes "a 9223372036854775807\n"))
+    one_round_of byte_order all_inside false sum_folded (rows_text (λ k. k))
+    (fold_lines_emissions bytes_key (codes "a 9223372036854775807\n"))
     ≡ Ok (codes "a 9223372036854775807\n")
 unfolding digits
 greatest_sum = refl
@@ -54,13 +56,15 @@ first_line_without_form :
 first_line_without_form = refl
 
 lower_of_two_middles :
-    one_round_of byte_order all_inside false median_folded (rows_text (λ k. k)) (fold_lines_emissions bytes_key (codes "k 9\nk 1\nk 5\nk 3\n"))
+    one_round_of byte_order all_inside false median_folded (rows_text (λ k. k))
+    (fold_lines_emissions bytes_key (codes "k 9\nk 1\nk 5\nk 3\n"))
     ≡ Ok (codes "k 3\n")
 unfolding digits
 lower_of_two_middles = refl
 
 returns_at_line_ends :
-    one_round_of byte_order all_inside false sum_folded (rows_text (λ k. k)) (fold_lines_emissions bytes_key (codes "a 1" ++ (13 ∷ 10 ∷ 13 ∷ 10 ∷ codes "b 2")))
+    one_round_of byte_order all_inside false sum_folded (rows_text (λ k. k))
+    (fold_lines_emissions bytes_key (codes "a 1" ++ (13 ∷ 10 ∷ 13 ∷ 10 ∷ codes "b 2")))
     ≡ Ok (codes "a 1\nb 2\n")
 unfolding digits
 returns_at_line_ends = refl
@@ -94,13 +98,15 @@ unfolding digits
 places_with_repeats = refl
 
 lines_of_patterns :
-    one_round_of nat_cmp (below 16) false count_folded (rows_text decimal) (string_match_emissions (codes "ab" ∷ codes "zz" ∷ codes "b" ∷ []) (codes "abab\ncab\nb\n"))
+    one_round_of nat_cmp (below 16) false count_folded (rows_text decimal)
+    (string_match_emissions (codes "ab" ∷ codes "zz" ∷ codes "b" ∷ []) (codes "abab\ncab\nb\n"))
     ≡ Ok (codes "0 2\n2 3\n")
 unfolding digits
 lines_of_patterns = refl
 
 pattern_twice_in_a_line :
-    one_round_of nat_cmp (below 16) false count_folded (rows_text decimal) (string_match_emissions (codes "ab" ∷ codes "zz" ∷ codes "b" ∷ []) (codes "ab ab\nzz"))
+    one_round_of nat_cmp (below 16) false count_folded (rows_text decimal)
+    (string_match_emissions (codes "ab" ∷ codes "zz" ∷ codes "b" ∷ []) (codes "ab ab\nzz"))
     ≡ Ok (codes "0 1\n1 1\n2 1\n")
 unfolding digits
 pattern_twice_in_a_line = refl

@@ -26,11 +26,13 @@ product left right = matrix_product_emissions (rows_in left) (rows_in right)
 
 abbrev clustered : List ℕ → ℕ → ℕ → Result (List ℕ) (Fault ℕ)
 clustered text clusters rounds =
-    rounds_of nat_cmp (below 16) false vecsum_folded (λ s. kmeans_emissions s.means (rows_in text)) kmeans_next rounds (kmeans_first clusters rounds (rows_in text))
+    rounds_of nat_cmp (below 16) false vecsum_folded (λ s. kmeans_emissions s.means (rows_in text)) kmeans_next rounds
+    (kmeans_first clusters rounds (rows_in text))
 
 abbrev rounds_run : List ℕ → ℕ → ℕ → List KMeansState
 rounds_run text clusters rounds =
-    states_of nat_cmp (below 16) false vecsum_folded (λ s. kmeans_emissions s.means (rows_in text)) kmeans_next rounds (kmeans_first clusters rounds (rows_in text))
+    states_of nat_cmp (below 16) false vecsum_folded (λ s. kmeans_emissions s.means (rows_in text)) kmeans_next rounds
+    (kmeans_first clusters rounds (rows_in text))
 
 abbrev varied : (List ℤ → Option Answer) → List ℕ → Result (List ℕ) (Fault ℕ)
 varied folded text = rounds_of nat_cmp (below 16) false folded (pca_emissions (rows_in text)) (pca_next (rows_in text)) 2 columns
@@ -42,12 +44,14 @@ unfolding digits
 colours_of_a_pixel = refl
 
 colours_from_the_top :
-    one_round_of nat_cmp (below 768) false sum_folded (rows_text decimal) (histogram_emissions (set (set (set (set one_pixel 22 255) 23 255) 24 255) 25 255))
+    one_round_of nat_cmp (below 768) false sum_folded (rows_text decimal)
+    (histogram_emissions (set (set (set (set one_pixel 22 255) 23 255) 24 255) 25 255))
     ≡ Ok (codes "1 1\n258 1\n767 1\n")
 unfolding digits
 colours_from_the_top = refl
 
-green_outside : one_round_of nat_cmp (below 256) false sum_folded (rows_text decimal) (histogram_emissions one_pixel) ≡ Err (fault.Outside 258)
+green_outside : one_round_of nat_cmp (below 256) false sum_folded (rows_text decimal) (histogram_emissions one_pixel)
+    ≡ Err (fault.Outside 258)
 green_outside = refl
 
 line_through_points :
@@ -69,7 +73,8 @@ unfolding digits
 line_through_no_point = refl
 
 squares_over :
-    one_round_of nat_cmp (below 16) false sum_folded regression_text (linear_regression_emissions (rows_in (codes "2147483647 0\n2147483647 0\n2147483647 0\n")))
+    one_round_of nat_cmp (below 16) false sum_folded regression_text
+    (linear_regression_emissions (rows_in (codes "2147483647 0\n2147483647 0\n2147483647 0\n")))
     ≡ Err (fault.Over 3)
 squares_over = refl
 

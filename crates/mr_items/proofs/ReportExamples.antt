@@ -44,7 +44,8 @@ two_workers :
 unfolding digits
 two_workers = refl
 
-workers_without_tasks : report_text ((([], 0) ∷ ([], 0) ∷ []) ∷ []) ≡ codes "round 1 worker 0 cells 0 tasks\nround 1 worker 1 cells 0 tasks\n"
+workers_without_tasks : report_text ((([], 0) ∷ ([], 0) ∷ []) ∷ [])
+    ≡ codes "round 1 worker 0 cells 0 tasks\nround 1 worker 1 cells 0 tasks\n"
 unfolding digits
 workers_without_tasks = refl
 

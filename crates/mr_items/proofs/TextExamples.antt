@@ -41,10 +41,13 @@ presence_of_words = refl
 pieces_of_two_words : pieces_of (is_word_boundary (codes "aa bb")) 1 5 ≡ (0, 2) ∷ (2, 3) ∷ (3, 5) ∷ []
 pieces_of_two_words = refl
 
-pairs_of_the_pieces : emissions_of_tasks (word_count_emits (codes "aa bb")) (word_places (codes "aa bb")) (pieces_of (is_word_boundary (codes "aa bb")) 1 5) (0 ∷ 1 ∷ 2 ∷ []) ≡ word_count_emissions (codes "aa bb")
+pairs_of_the_pieces : emissions_of_tasks (word_count_emits (codes "aa bb")) (word_places (codes "aa bb"))
+    (pieces_of (is_word_boundary (codes "aa bb")) 1 5) (0 ∷ 1 ∷ 2 ∷ []) ≡ word_count_emissions (codes "aa bb")
 pairs_of_the_pieces = refl
 
-cells_of_two_pieces : cells_of byte_order all_inside (emissions_of_tasks (word_count_emits (codes "aa bb")) (word_places (codes "aa bb")) (pieces_of (is_word_boundary (codes "aa bb")) 1 5) (1 ∷ 2 ∷ [])) ≡ 1
+cells_of_two_pieces : cells_of byte_order all_inside
+    (emissions_of_tasks (word_count_emits (codes "aa bb")) (word_places (codes "aa bb")) (pieces_of (is_word_boundary (codes "aa bb")) 1 5)
+    (1 ∷ 2 ∷ [])) ≡ 1
 cells_of_two_pieces = refl
 
 cells_of_all_pieces : cells_of byte_order all_inside (word_count_emissions (codes "aa bb")) ≡ 2

@@ -1,5 +1,6 @@
 -- Points, each with the nearest of some means, in rounds that move the means.
-use Rattle.std.specs.Prelude.{ℕ, ◌-◌, ◌*◌, ℤ, ◌-ℤ◌, nat_abs, Bool, ◌||◌, nat_le, if◌then◌else◌, List, [], ◌∷◌, ◌++◌, length, map, take, zip, flat_map, position, sum_by, get_or, unwrap_or, decimal}
+use Rattle.std.specs.Prelude.{ℕ, ◌-◌, ◌*◌, ℤ, ◌-ℤ◌, nat_abs, Bool, ◌||◌, nat_le, if◌then◌else◌, List, [], ◌∷◌, ◌++◌, length, map, take, zip}
+use Rattle.std.specs.Prelude.{flat_map, position, sum_by, get_or, unwrap_or, decimal}
 use Rattle.std.specs.List.{range_with_len, enumerate_from, list_all}
 use Rattle.std.specs.Int.{int_div_euclid}
 use Rattle.std.specs.Ordering.{int_cmp, eq_by_cmp}

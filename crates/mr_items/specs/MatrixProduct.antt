@@ -1,5 +1,6 @@
 -- The product of two grids, an item for each row of the left and each column of the right.
-use Rattle.std.specs.Prelude.{ℕ, ◌*◌, ◌/◌, ◌%◌, ℤ, ◌*ℤ◌, Bool, ◌&&◌, ◌==◌, nat_le, if◌then◌else◌, List, [], ◌∷◌, length, map, zip, flat_map, get_or}
+use Rattle.std.specs.Prelude.{ℕ, ◌*◌, ◌/◌, ◌%◌, ℤ, ◌*ℤ◌, Bool, ◌&&◌, ◌==◌, nat_le, if◌then◌else◌, List, [], ◌∷◌, length, map, zip, flat_map}
+use Rattle.std.specs.Prelude.{get_or}
 use Rattle.std.specs.List.{range_with_len}
 use Rattle.mr_defs.specs.Emission.{Emission, Pair, TooLarge}
 use Rattle.mr_defs.specs.Folded.{limit, total, magnitude}

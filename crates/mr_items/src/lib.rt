@@ -36,8 +36,8 @@ pub enum GridFault {
 }
 
 /// The first fault of a bitmap, in the order of the tests: fewer than 54 bytes, no `BM` in front, a header of another length than 40, other
-/// than one plane, other than 24 bits a pixel, compressed, a width below 1, a height of 0, pixels that begin inside the header or behind the
-/// end, and pixels that go past the end. The format is that of the 24-bit uncompressed Windows bitmap with a header of 40 bytes.
+/// than one plane, other than 24 bits a pixel, compressed, a width below 1, a height of 0, pixels that begin inside the header or behind
+/// the end, and pixels that go past the end. The format is that of the 24-bit uncompressed Windows bitmap with a header of 40 bytes.
 #[derive(Clone, Copy, Debug, PartialEq, Eq)]
 pub enum BitmapFault {
     Short,

@@ -1,5 +1,6 @@
 -- A table with no bad value means a job within its bounds.
-use Rattle.std.proofs.Common.{◌≡◌, ◌∙◌, ap, ℕ, pos, Bool, true, false, not, ◌&&◌, List, [], find, cond, Option, Some, None, refl, option_map, option_and_then}
+use Rattle.std.proofs.Common.{◌≡◌, ◌∙◌, ap, ℕ, pos, Bool, true, false, not, ◌&&◌, List, [], find, cond, Option, Some, None, refl}
+use Rattle.std.proofs.Common.{option_map, option_and_then}
 use Rattle.std.specs.Prelude.{IfSome, unwrap_or, slice_get}
 use Rattle.std.specs.List.{list_all}
 use Rattle.std.proofs.lemmas.Bool.{and_parts}
@@ -15,10 +16,12 @@ use Rattle.mr_capacity.specs.Tables.{Row, rows, is_row, is_capacity, is_pairing,
 use Rattle.mr_jobfile.specs.declared.key.JobKey.{JobKey}
 use Rattle.mr_jobfile.specs.declared.key.JobKey.TheVariants as key
 use Rattle.mr_jobfile.specs.declared.values.Values.{Values}
-use Rattle.mr_jobfile.specs.Ranges.{most_partitions, greatest_chunk, most_clusters, most_rounds, is_within, is_count_of, are_patterns, are_patterns_of, has_means, has_patterns, is_text_job}
+use Rattle.mr_jobfile.specs.Ranges.{most_partitions, greatest_chunk, most_clusters, most_rounds, is_within, is_count_of, are_patterns}
+use Rattle.mr_jobfile.specs.Ranges.{are_patterns_of, has_means, has_patterns, is_text_job}
 use Rattle.mr_jobfile.specs.Forms.{is_there, is_bad, first_bad, number_in, texts_in}
 use Rattle.mr_jobfile.specs.Keys.{key_text, all_keys}
-use Rattle.mr_jobfile.specs.Values.{said, values_of, is_there_exactly, has_further, fits_row, keys_in, default_chunk, default_partitions, job_with, job_by, described}
+use Rattle.mr_jobfile.specs.Values.{said, values_of, is_there_exactly, has_further, fits_row, keys_in, default_chunk, default_partitions}
+use Rattle.mr_jobfile.specs.Values.{job_with, job_by, described}
 use Rattle.mr_jobfile.specs.Allowed.{IsAllowed}
 use Rattle.mr_jobfile.proofs.Found.{not_found, found_passes, found_among, some_more, some_map, some_both}
 
@@ -39,18 +42,21 @@ there test (Some x) good = passes (test x) good
     passes true e = refl
     passes false e = cc
 
-good_at : {A : Type 0} (test : A → Bool) (read : Data → Option A) (value : Option Data) → is_there (λ d. not (is_there test (read d))) value ≡ false
+good_at : {A : Type 0} (test : A → Bool) (read : Data → Option A) (value : Option Data)
+    → is_there (λ d. not (is_there test (read d))) value ≡ false
     → IfSome (option_and_then read value) (λ x. test x ≡ true)
 good_at test read None good = tt
 good_at test read (Some d) good = there test (read d) good
 
-number_good : (test : ℕ → Bool) (ms : Members) (k : JobKey) → is_there (λ d. not (is_there test (number_in d))) (get_member (key_text k) ms) ≡ false
+number_good : (test : ℕ → Bool) (ms : Members) (k : JobKey)
+    → is_there (λ d. not (is_there test (number_in d))) (get_member (key_text k) ms) ≡ false
     → IfSome (said number_in k ms) (λ n. test n ≡ true)
 number_good test ms k good = good_at test number_in (get_member (key_text k) ms) good
 
 are_good : (ms : Members) → first_bad ms ≡ None → AreGood (values_of ms)
 are_good ms none =
-    let good : (i : ℕ) (k : JobKey) → slice_get all_keys i ≡ Some k → is_bad ms k ≡ false = λ i k at. not_found (is_bad ms) all_keys i k none at in
+    let good : (i : ℕ) (k : JobKey) → slice_get all_keys i ≡ Some k → is_bad ms k ≡ false =
+    λ i k at. not_found (is_bad ms) all_keys i k none at in
     record {
       capacity = number_good (λ n. is_capacity (pos n)) ms key.Capacity (good 3 key.Capacity refl);
       partitions = number_good (is_within 1 most_partitions) ms key.Partitions (good 8 key.Partitions refl);
@@ -60,17 +66,20 @@ are_good ms none =
       patterns = good_at are_patterns texts_in (get_member (key_text key.Patterns) ms) (good 12 key.Patterns refl);
     }
 
-default_good : {A : Type 0} (test : A → Bool) (value : Option A) (other : A) → IfSome value (λ x. test x ≡ true) → test other ≡ true → test (unwrap_or value other) ≡ true
+default_good : {A : Type 0} (test : A → Bool) (value : Option A) (other : A) → IfSome value (λ x. test x ≡ true) → test other ≡ true
+    → test (unwrap_or value other) ≡ true
 default_good test None other good fallback = fallback
 default_good test (Some x) other good fallback = good
 
-count_good : (named : Bool) (high : ℕ) (value : Option ℕ) → is_there_exactly named value ≡ true → IfSome value (λ n. is_within 1 high n ≡ true) → is_count_of named high (unwrap_or value 0) ≡ true
+count_good : (named : Bool) (high : ℕ) (value : Option ℕ) → is_there_exactly named value ≡ true
+    → IfSome value (λ n. is_within 1 high n ≡ true) → is_count_of named high (unwrap_or value 0) ≡ true
 count_good true high None named good = cc
 count_good true high (Some n) named good = good
 count_good false high None named good = refl
 count_good false high (Some n) named good = cc
 
-patterns_good : (named : Bool) (value : Option (List (List ℕ))) → is_there_exactly named value ≡ true → IfSome value (λ ps. are_patterns ps ≡ true) → are_patterns_of named (unwrap_or value []) ≡ true
+patterns_good : (named : Bool) (value : Option (List (List ℕ))) → is_there_exactly named value ≡ true
+    → IfSome value (λ ps. are_patterns ps ≡ true) → are_patterns_of named (unwrap_or value []) ≡ true
 patterns_good true None named good = cc
 patterns_good true (Some ps) named good = good
 patterns_good false None named good = refl
@@ -82,7 +91,8 @@ same_flag true b = b
 same_flag false b = not b
 
 abbrev agrees : Row → Bool
-agrees row = same_flag (has_means row.job) (same_further row.further further.Means) && same_flag (has_patterns row.job) (same_further row.further further.Patterns)
+agrees row = same_flag (has_means row.job) (same_further row.further further.Means)
+    && same_flag (has_patterns row.job) (same_further row.further further.Patterns)
 
 all_agree : list_all agrees rows ≡ true
 all_agree = refl
@@ -98,14 +108,19 @@ record HasFurther (v : Values) (job : JobKind) : Type 0 where
   rounds : is_there_exactly (has_means job) v.rounds ≡ true
   patterns : is_there_exactly (has_patterns job) v.patterns ≡ true
 
-further_of : (v : Values) (job : JobKind) (container : ContainerKind) (combiner : CombinerKind) (row : Row) → fits_row v job container combiner row ≡ true → agrees row ≡ true → HasFurther v job
+further_of : (v : Values) (job : JobKind) (container : ContainerKind) (combiner : CombinerKind) (row : Row)
+    → fits_row v job container combiner row ≡ true → agrees row ≡ true → HasFurther v job
 further_of v job container combiner row fits agree =
     let (in_row, others) = and_parts (is_row row job container row.keys combiner v.reducer) (has_further row v) fits in
-    let (kinds, parts) = and_parts (same_job row.job job && same_keys row.keys row.keys) (has_parts row container combiner v.reducer) in_row in
+    let (kinds, parts) =
+    and_parts (same_job row.job job && same_keys row.keys row.keys) (has_parts row container combiner v.reducer) in_row in
     let same : row.job ≡ job = same_true the_type tt row.job job (and_parts (same_job row.job job) (same_keys row.keys row.keys) kinds).0 in
-    let (means, patterns) = and_parts (same_flag (has_means row.job) (same_further row.further further.Means)) (same_flag (has_patterns row.job) (same_further row.further further.Patterns)) agree in
-    let has_means_too : same_further row.further further.Means ≡ has_means job = flags_same (has_means row.job) _ means ∙ ap has_means same in
-    let has_patterns_too : same_further row.further further.Patterns ≡ has_patterns job = flags_same (has_patterns row.job) _ patterns ∙ ap has_patterns same in
+    let (means, patterns) = and_parts (same_flag (has_means row.job) (same_further row.further further.Means))
+    (same_flag (has_patterns row.job) (same_further row.further further.Patterns)) agree in
+    let has_means_too : same_further row.further further.Means ≡ has_means job =
+    flags_same (has_means row.job) _ means ∙ ap has_means same in
+    let has_patterns_too : same_further row.further further.Patterns ≡ has_patterns job =
+    flags_same (has_patterns row.job) _ patterns ∙ ap has_patterns same in
     let (before_keys, _) = and_parts _ _ others in
     let (before_rounds, rounds) = and_parts _ (is_there_exactly (same_further row.further further.Means) v.rounds) before_keys in
     let (before_clusters, clusters) = and_parts _ (is_there_exactly (same_further row.further further.Means) v.clusters) before_rounds in
@@ -116,8 +131,10 @@ further_of v job container combiner row fits agree =
       patterns = rw has_patterns_too at listed;
     }
 
-in_pairings : (v : Values) (job : JobKind) (container : ContainerKind) (combiner : CombinerKind) (row : Row) → fits_row v job container combiner row ≡ true → is_row row job container row.keys combiner v.reducer ≡ true
-in_pairings v job container combiner row fits = (and_parts (is_row row job container row.keys combiner v.reducer) (has_further row v) fits).0
+in_pairings : (v : Values) (job : JobKind) (container : ContainerKind) (combiner : CombinerKind) (row : Row)
+    → fits_row v job container combiner row ≡ true → is_row row job container row.keys combiner v.reducer ≡ true
+in_pairings v job container combiner row fits =
+    (and_parts (is_row row job container row.keys combiner v.reducer) (has_further row v) fits).0
 
 default_chunk_good : (job : JobKind) → is_within 1 greatest_chunk (default_chunk job) ≡ true
 default_chunk_good job = by_size (is_text_job job)
@@ -136,7 +153,8 @@ allowed_with v good job container capacity combiner capacity_good =
     found_among fits (λ found row. is_row row job container found.keys combiner v.reducer) rows (in_pairings v job container combiner) in
     some_map (job_with v job container capacity combiner) IsAllowed (keys_in rows v job container combiner)
     (some_map (λ row. row.keys) (λ keys. IsAllowed (job_with v job container capacity combiner keys)) (find fits rows)
-    (some_more _ (λ row. IsAllowed (job_with v job container capacity combiner row.keys)) (find fits rows) (some_both _ _ (find fits rows) passing among)
+    (some_more _ (λ row. IsAllowed (job_with v job container capacity combiner row.keys)) (find fits rows)
+    (some_both _ _ (find fits rows) passing among)
     (λ row known.
     let more = further_of v job container combiner row known.0.0 known.0.1 in
     record {
@@ -149,7 +167,8 @@ allowed_with v good job container capacity combiner capacity_good =
       patterns = patterns_good (has_patterns job) v.patterns more.patterns good.patterns;
     })))
 
-by_parts : (v : Values) → AreGood v → (job : Option JobKind) (container : Option ContainerKind) (capacity : Option ℕ) (combiner : Option CombinerKind)
+by_parts : (v : Values) → AreGood v
+    → (job : Option JobKind) (container : Option ContainerKind) (capacity : Option ℕ) (combiner : Option CombinerKind)
     → IfSome capacity (λ n. is_capacity (pos n) ≡ true) → IfSome (job_by v job container capacity combiner) IsAllowed
 by_parts v good None container capacity combiner c = tt
 by_parts v good (Some job) None capacity combiner c = tt

@@ -39,7 +39,8 @@ words_given : job_of words ≡ Ok word_job
 unfolding toml_on_literals chars encode_utf8 is_utf8 job_of document_of
 words_given = refl
 
-all_given : job_of (words ++ codes "queue = \"blocks\"\npartitions = 64\nchunk = 1\n") ≡ Ok (record word_job { queue = queue.Blocks; partitions = 64; chunk = 1 })
+all_given : job_of (words ++ codes "queue = \"blocks\"\npartitions = 64\nchunk = 1\n")
+    ≡ Ok (record word_job { queue = queue.Blocks; partitions = 64; chunk = 1 })
 unfolding toml_on_literals chars encode_utf8 is_utf8 job_of document_of
 all_given = refl
 
@@ -67,7 +68,8 @@ no_container : job_of (codes "version = 1\njob = 1\n") ≡ Err (fault.Missing ke
 unfolding toml_on_literals chars encode_utf8 is_utf8 job_of document_of
 no_container = refl
 
-version_text : job_of (codes "version = \"1\"\njob = \"word_count\"\ncontainer = \"hash\"\ncapacity = 1024\ncombiner = \"sum\"\n") ≡ Err (fault.BadValue key.Version)
+version_text : job_of (codes "version = \"1\"\njob = \"word_count\"\ncontainer = \"hash\"\ncapacity = 1024\ncombiner = \"sum\"\n")
+    ≡ Err (fault.BadValue key.Version)
 unfolding toml_on_literals chars encode_utf8 is_utf8 job_of document_of
 version_text = refl
 
@@ -84,7 +86,8 @@ unfolding toml_on_literals chars encode_utf8 is_utf8 job_of document_of
 chunk_0 = refl
 
 -- the array common to all workers doesn't go with words
-container_common : job_of (codes "version = 1\njob = \"word_count\"\ncontainer = \"common\"\ncapacity = 1024\ncombiner = \"sum\"\n") ≡ Err fault.Pairing
+container_common : job_of (codes "version = 1\njob = \"word_count\"\ncontainer = \"common\"\ncapacity = 1024\ncombiner = \"sum\"\n")
+    ≡ Err fault.Pairing
 unfolding toml_on_literals chars encode_utf8 is_utf8 job_of document_of
 container_common = refl
 

@@ -14,7 +14,8 @@ not_found p [] i x none at = cc
 not_found p (y ∷ ys) zero x none at = let same : y ≡ x = cc in rw (← same) (none_here (p y) y (find p ys) none).0
 not_found p (y ∷ ys) (suc i) x none at = not_found p ys i x (none_here (p y) y (find p ys) none).1 at
 
-some_here : {A : Type 0} (P : A → Type 0) (here : Bool) (x : A) (rest : Option A) → (here ≡ true → P x) → IfSome rest P → IfSome (cond here (Some x) rest) P
+some_here : {A : Type 0} (P : A → Type 0) (here : Bool) (x : A) (rest : Option A) → (here ≡ true → P x) → IfSome rest P
+    → IfSome (cond here (Some x) rest) P
 some_here P true x rest this other = this refl
 some_here P false x rest this other = other
 
@@ -23,7 +24,8 @@ some_more P Q None holds more = tt
 some_more P Q (Some x) holds more = more x holds
 
 -- what is found passes its test, and one that each element passes
-pub found_passes : {A : Type 0} (p q : A → Bool) (xs : List A) → list_all q xs ≡ true → IfSome (find p xs) (λ x. (p x ≡ true) × (q x ≡ true))
+pub found_passes : {A : Type 0} (p q : A → Bool) (xs : List A) → list_all q xs ≡ true
+    → IfSome (find p xs) (λ x. (p x ≡ true) × (q x ≡ true))
 found_passes p q [] each = tt
 found_passes p q (x ∷ xs) each =
     let (here, rest) = and_parts (q x) (list_all q xs) each in
@@ -34,7 +36,8 @@ or_true true c e = refl
 or_true false c e = e
 
 -- it is one of the elements
-pub found_among : {A : Type 0} (p : A → Bool) (q : A → A → Bool) (xs : List A) → ((x : A) → p x ≡ true → q x x ≡ true) → IfSome (find p xs) (λ x. list_any (q x) xs ≡ true)
+pub found_among : {A : Type 0} (p : A → Bool) (q : A → A → Bool) (xs : List A) → ((x : A) → p x ≡ true → q x x ≡ true)
+    → IfSome (find p xs) (λ x. list_any (q x) xs ≡ true)
 found_among p q [] passes = tt
 found_among p q (x ∷ xs) passes =
     some_here (λ y. list_any (q y) (x ∷ xs) ≡ true) (p x) x (find p xs) (λ here. rw (passes x here))

@@ -1,5 +1,6 @@
 -- The least key that is unknown is the first one on a walk over ascending keys.
-use Rattle.std.proofs.Common.{◌≡◌, ℕ, Bool, true, false, not, cond, List, [], ◌∷◌, filter, Some, None, Option, String, Global, string_bytes, nat_cmp, Less, refl, sym, ◌∙◌}
+use Rattle.std.proofs.Common.{◌≡◌, ℕ, Bool, true, false, not, cond, List, [], ◌∷◌, filter, Some, None, Option, String, Global, string_bytes}
+use Rattle.std.proofs.Common.{nat_cmp, Less, refl, sym, ◌∙◌}
 use Rattle.std.specs.Prelude.{if◌then◌else◌}
 use Rattle.std.specs.Cmp.Lexicographic.{slice_cmp}
 use Rattle.std.specs.FinMap.{slice_cmp-IsAntisymmetric, nat_cmp-IsAntisymmetric}
@@ -35,9 +36,11 @@ joined_above k name false rest below others =
     sym (joined-assoc commutes (Some k) (Some name) (least (slice_cmp nat_cmp) rest)) ∙ rw (lesser_below k name below) others
 
 all_above : (k : String Global) (es : List Entry) → AllByRecursion (λ y. string_cmp k y ≡ Less) (keys_of es)
-    → joined (lesser (slice_cmp nat_cmp)) (Some (string_bytes k)) (least (slice_cmp nat_cmp) (filter is_unknown (names_in (members_view es)))) ≡ Some (string_bytes k)
+    → joined (lesser (slice_cmp nat_cmp)) (Some (string_bytes k))
+    (least (slice_cmp nat_cmp) (filter is_unknown (names_in (members_view es)))) ≡ Some (string_bytes k)
 all_above k [] above = refl
-all_above k (e ∷ es) above = joined_above (string_bytes k) (string_bytes e.0) (is_known (string_bytes e.0)) _ above.0 (all_above k es above.1)
+all_above k (e ∷ es) above =
+    joined_above (string_bytes k) (string_bytes e.0) (is_known (string_bytes e.0)) _ above.0 (all_above k es above.1)
 
 here_or_later : (name : List ℕ) (known : Bool) (rest : List (List ℕ)) (later : Option (List ℕ)) → least (slice_cmp nat_cmp) rest ≡ later
     → joined (lesser (slice_cmp nat_cmp)) (Some name) (least (slice_cmp nat_cmp) rest) ≡ Some name

@@ -1,7 +1,8 @@
 -- What a job keeps: its kinds go together, and its numbers are in their ranges.
 use Rattle.std.specs.Prelude.{IsTrue, pos}
 use Rattle.mr_capacity.specs.Tables.{is_capacity, is_pairing}
-use Rattle.mr_jobfile.specs.Ranges.{most_partitions, greatest_chunk, most_clusters, most_rounds, is_within, is_count_of, are_patterns_of, has_means, has_patterns}
+use Rattle.mr_jobfile.specs.Ranges.{most_partitions, greatest_chunk, most_clusters, most_rounds, is_within, is_count_of, are_patterns_of}
+use Rattle.mr_jobfile.specs.Ranges.{has_means, has_patterns}
 use Rattle.mr_jobfile.specs.Values.{SeenJob}
 
 -- capacity and pairing are in their tables, and every number and list is in its range

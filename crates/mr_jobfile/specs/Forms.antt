@@ -1,5 +1,6 @@
 -- Which values a key may have.
-use Rattle.std.specs.Prelude.{ℕ, pos, ◌^◌, Bool, false, not, nat_lt, is_some, List, [], ◌∷◌, find, if◌then◌else◌, Option, Some, None, option_and_then, option_map}
+use Rattle.std.specs.Prelude.{ℕ, pos, ◌^◌, Bool, false, not, nat_lt, is_some, List, [], ◌∷◌, find, if◌then◌else◌, Option, Some, None}
+use Rattle.std.specs.Prelude.{option_and_then, option_map}
 use Rattle.std.specs.Option.{option_map_or}
 use Rattle.toml.specs.Data.{Data, string, integer, Items, no_items, item, Members, get_member, as_str, as_array}
 use Rattle.mr_capacity.specs.Names.{named, job_names, container_names, key_names, combiner_names, reducer_names, queue_names}

@@ -1,5 +1,6 @@
 -- What a table says of each key, and the job that it means.
-use Rattle.std.specs.Prelude.{ℕ, Bool, true, false, is_some, is_none, ◌&&◌, List, [], if◌then◌else◌, Option, Some, None, option_map, option_and_then, unwrap_or, find}
+use Rattle.std.specs.Prelude.{ℕ, Bool, true, false, is_some, is_none, ◌&&◌, List, [], if◌then◌else◌, Option, Some, None, option_map}
+use Rattle.std.specs.Prelude.{option_and_then, unwrap_or, find}
 use Rattle.std.specs.Option.{option_map_or}
 use Rattle.toml.specs.Data.{Data, Members, get_member}
 use Rattle.mr_capacity.specs.declared.kinds.JobKind.{JobKind}

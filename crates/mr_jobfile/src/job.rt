@@ -1,6 +1,7 @@
 ghost use Rattle.std.specs.Prelude.{◌≡◌, IsTrue, pos};
 ghost use Rattle.mr_capacity.specs.Tables.{is_capacity, is_pairing};
-ghost use Rattle.mr_jobfile.specs.Ranges.{most_partitions, greatest_chunk, most_clusters, most_rounds, are_patterns_of, has_means, has_patterns, is_count_of, is_within};
+ghost use Rattle.mr_jobfile.specs.Ranges.{most_partitions, greatest_chunk, most_clusters, most_rounds, are_patterns_of, has_means};
+ghost use Rattle.mr_jobfile.specs.Ranges.{has_patterns, is_count_of, is_within};
 
 use mr_base::Patterns;
 use mr_capacity::{CombinerKind, ContainerKind, JobKind, KeyKind, QueueKind, ReducerKind};

@@ -3,8 +3,8 @@
 //! The definition is `job_of` in `specs/`: conditions on the whole table that `toml` reads, in the order of the faults. It knows no walk
 //! over the file. Keys and ranges are tables of data, with one rule for each kind of value.
 //!
-//! Its promise: `read_job` gives the job exactly where `job_of` has one, with every field, and else exactly the fault that `job_of` names; want
-//! of memory is told apart from both.
+//! Its promise: `read_job` gives the job exactly where `job_of` has one, with every field, and else exactly the fault that `job_of` names;
+//! want of memory is told apart from both.
 #![tactic(auto)]
 
 mod defaults;

@@ -49,8 +49,8 @@ fn judged(alloc: Global, table: &Table) -> Result<Job, Stop<JobFault>>
 
 /// Reads a job file: a TOML document of at most 65536 bytes (TOML 1.1), of which only the top table is looked at.
 ///
-/// The fault is the first that holds: too long, no TOML, the least unknown key, the first missing key, the first key with a bad value, no row
-/// of the table of pairings.
+/// The fault is the first that holds: too long, no TOML, the least unknown key, the first missing key, the first key with a bad value, no
+/// row of the table of pairings.
 pub fn read_job(alloc: Global, bytes: &[u8]) -> Result<Job, Stop<JobFault>>
     ensures job { IfOk result (λ j. job_of bytes.now ≡ Ok (seen j)) }
     ensures fault { (f : JobFault) → result ≡ Err (Stop.Refused f) → job_of bytes.now ≡ Err f }

@@ -1,5 +1,6 @@
 -- Masks of up to 64 bits as the lists of their bits, the lowest first.
-use Rattle.std.proofs.Common.{◌≡◌, ◌≤◌, ◌<◌, ◌+◌, ◌-◌, ◌*◌, ◌/◌, ◌%◌, ◌^◌, ◌==◌, ℕ, zero, suc, Bool, true, false, not, cond, List, [], ◌∷◌, length, take, drop, map, refl, sym, ap, ap₂, ◌∙◌, arith, bit_and, bit_xor, mod-lt}
+use Rattle.std.proofs.Common.{◌≡◌, ◌≤◌, ◌<◌, ◌+◌, ◌-◌, ◌*◌, ◌/◌, ◌%◌, ◌^◌, ◌==◌, ℕ, zero, suc, Bool, true, false, not, cond, List, [], ◌∷◌}
+use Rattle.std.proofs.Common.{length, take, drop, map, refl, sym, ap, ap₂, ◌∙◌, arith, bit_and, bit_xor, mod-lt}
 use Rattle.std.specs.Int.Bits.{and_self}
 use Rattle.std.specs.Int.Count.{count_trailing_zeros}
 use Rattle.std.specs.List.{prefix_len}
@@ -53,7 +54,8 @@ split (suc n) [] = sym (ap (λ k. 0 + k) (zeros (2 ^ suc n)))
     zeros k = omega arith
 split (suc n) (b ∷ bs) =
     let p = 2 ^ n in
-    let rest : 2 ^ suc n * mask_l (drop n bs) ≡ 2 * (p * mask_l (drop n bs)) = ap (λ k. k * mask_l (drop n bs)) (pow-succ' 2 n) ∙ mul_assoc 2 p (mask_l (drop n bs)) in
+    let rest : 2 ^ suc n * mask_l (drop n bs) ≡ 2 * (p * mask_l (drop n bs)) =
+    ap (λ k. k * mask_l (drop n bs)) (pow-succ' 2 n) ∙ mul_assoc 2 p (mask_l (drop n bs)) in
     omega (arith, rest, split n bs)
 
 -- a mask of few bits is small
@@ -66,7 +68,8 @@ short (suc n) [] = omega arith
 short (suc n) (b ∷ bs) = let h = short n bs in omega (arith, h)
 
 pub front : (n : ℕ) (bs : List Bool) → mask_l bs % 2 ^ n ≡ mask_l (take n bs)
-front n bs = ap (λ m. m % 2 ^ n) (split n bs) ∙ add-mul-mod_self_left (mask_l (take n bs)) (2 ^ n) (mask_l (drop n bs)) ∙ mask_l-mod (take n bs) n (short n bs)
+front n bs = ap (λ m. m % 2 ^ n) (split n bs) ∙ add-mul-mod_self_left (mask_l (take n bs)) (2 ^ n) (mask_l (drop n bs))
+    ∙ mask_l-mod (take n bs) n (short n bs)
 
 -- bits behind a front play no part
 front_zip : (n : ℕ) (bs cs : List Bool) → zip2 differs (take n bs) (take n cs) ≡ zip2 differs (take n bs) cs
@@ -117,7 +120,8 @@ pub few_places : (k : ℕ) (bs : List Bool) → length (set_places k bs) ≤ len
 few_places k [] = omega arith
 few_places k (b ∷ bs) = by b (few_places (k + 1) bs)
   where
-    by : (c : Bool) → length (set_places (k + 1) bs) ≤ length bs → length (cond c (k ∷ set_places (k + 1) bs) (set_places (k + 1) bs)) ≤ suc (length bs)
+    by : (c : Bool) → length (set_places (k + 1) bs) ≤ length bs
+        → length (cond c (k ∷ set_places (k + 1) bs) (set_places (k + 1) bs)) ≤ suc (length bs)
     by true h = omega (arith, h)
     by false h = omega (arith, h)
 
@@ -125,7 +129,8 @@ pub no_places : (k : ℕ) (bs : List Bool) → mask_l bs ≡ 0 → set_places k 
 no_places k [] e = refl
 no_places k (b ∷ bs) e = by b e (no_places (k + 1) bs)
   where
-    by : (c : Bool) → cond c 1 0 + 2 * mask_l bs ≡ 0 → (mask_l bs ≡ 0 → set_places (k + 1) bs ≡ []) → cond c (k ∷ set_places (k + 1) bs) (set_places (k + 1) bs) ≡ []
+    by : (c : Bool) → cond c 1 0 + 2 * mask_l bs ≡ 0 → (mask_l bs ≡ 0 → set_places (k + 1) bs ≡ [])
+        → cond c (k ∷ set_places (k + 1) bs) (set_places (k + 1) bs) ≡ []
     by true e h = absurd (omega (arith, e))
     by false e h = h (omega (arith, e))
 
@@ -141,11 +146,13 @@ pub mask_cleared : (bs : List Bool) → 0 < mask_l bs → mask_l (cleared bs) �
 mask_cleared [] h = absurd (omega (arith, h))
 mask_cleared (b ∷ bs) h = value b ∙ by b (mask_l bs) (mask_l (cleared bs)) h (mask_cleared bs)
   where
-    value : (c : Bool) → mask_l (cond c (false ∷ bs) (false ∷ cleared bs)) ≡ cond c (mask_l bs * 2 ^ 1 + 0) (mask_l (cleared bs) * 2 ^ 1 + 0)
+    value : (c : Bool)
+        → mask_l (cond c (false ∷ bs) (false ∷ cleared bs)) ≡ cond c (mask_l bs * 2 ^ 1 + 0) (mask_l (cleared bs) * 2 ^ 1 + 0)
     value true = omega arith
     value false = omega arith
 
-    by : (c : Bool) (m k : ℕ) → 0 < cond c 1 0 + 2 * m → (0 < m → k ≡ bit_and m (m - 1)) → cond c (m * 2 ^ 1 + 0) (k * 2 ^ 1 + 0) ≡ bit_and (cond c 1 0 + 2 * m) (cond c 1 0 + 2 * m - 1)
+    by : (c : Bool) (m k : ℕ) → 0 < cond c 1 0 + 2 * m → (0 < m → k ≡ bit_and m (m - 1))
+        → cond c (m * 2 ^ 1 + 0) (k * 2 ^ 1 + 0) ≡ bit_and (cond c 1 0 + 2 * m) (cond c 1 0 + 2 * m - 1)
     by true m k h less =
         let one : 1 + 2 * m ≡ m * 2 ^ 1 + 1 = omega arith in
         let none : 1 + 2 * m - 1 ≡ m * 2 ^ 1 + 0 = omega arith in
@@ -161,15 +168,19 @@ first_place : (k : ℕ) (bs : List Bool) → 0 < mask_l bs → set_places k bs �
 first_place k [] h = absurd (omega (arith, h))
 first_place k (b ∷ bs) h = by b h (first_place (k + 1) bs)
   where
-    by : (c : Bool) → 0 < cond c 1 0 + 2 * mask_l bs → (0 < mask_l bs → set_places (k + 1) bs ≡ (k + 1 + prefix_len not bs) ∷ set_places (k + 1) (cleared bs))
-        → cond c (k ∷ set_places (k + 1) bs) (set_places (k + 1) bs) ≡ (k + cond (not c) (1 + prefix_len not bs) 0) ∷ set_places k (cond c (false ∷ bs) (false ∷ cleared bs))
+    by : (c : Bool) → 0 < cond c 1 0 + 2 * mask_l bs
+        → (0 < mask_l bs → set_places (k + 1) bs ≡ (k + 1 + prefix_len not bs) ∷ set_places (k + 1) (cleared bs))
+        → cond c (k ∷ set_places (k + 1) bs) (set_places (k + 1) bs)
+        ≡ (k + cond (not c) (1 + prefix_len not bs) 0) ∷ set_places k (cond c (false ∷ bs) (false ∷ cleared bs))
     by true h rest = ap (λ j. j ∷ set_places (k + 1) bs) (omega arith)
     by false h rest = rest (omega (arith, h)) ∙ ap (λ j. j ∷ set_places (k + 1) (cleared bs)) (omega arith)
 
-pub next_place : (k : ℕ) (bs : List Bool) → 0 < mask_l bs → length bs ≤ 64 → set_places k bs ≡ (k + count_trailing_zeros 64 (mask_l bs)) ∷ set_places k (cleared bs)
+pub next_place : (k : ℕ) (bs : List Bool) → 0 < mask_l bs → length bs ≤ 64
+    → set_places k bs ≡ (k + count_trailing_zeros 64 (mask_l bs)) ∷ set_places k (cleared bs)
 next_place k bs h few =
     first_place k bs h
-    ∙ ap (λ j. (k + j) ∷ set_places k (cleared bs)) (sym (ap (λ cs. count_trailing_zeros 64 (mask_l cs)) (sym (map-id bs)) ∙ trailing_mask_l (λ b. b) 64 bs few (ap_less h)))
+    ∙ ap (λ j. (k + j) ∷ set_places k (cleared bs))
+    (sym (ap (λ cs. count_trailing_zeros 64 (mask_l cs)) (sym (map-id bs)) ∙ trailing_mask_l (λ b. b) 64 bs few (ap_less h)))
   where
     ap_less : 0 < mask_l bs → 0 < mask_l (map (λ b. b) bs)
     ap_less h = rw (map-id bs) h
@@ -180,7 +191,8 @@ same_places zero base [] h = refl
 same_places zero base (b ∷ bs) h = absurd (omega (arith, h))
 same_places (suc k) base [] h = no_places base (bits (suc k) 0) (mask_bits (suc k) 0 (pow_pos (suc k)))
 same_places (suc k) base (b ∷ bs) h =
-    ap₂ (λ c ds. cond c (base ∷ ds) ds) (lowest b (mask_l bs)) (ap (λ m. set_places (base + 1) (bits k m)) (rest b (mask_l bs)) ∙ same_places k (base + 1) bs (omega (arith, h)))
+    ap₂ (λ c ds. cond c (base ∷ ds) ds) (lowest b (mask_l bs))
+    (ap (λ m. set_places (base + 1) (bits k m)) (rest b (mask_l bs)) ∙ same_places k (base + 1) bs (omega (arith, h)))
   where
     lowest : (c : Bool) (m : ℕ) → ((cond c 1 0 + 2 * m) % 2 == 1) ≡ c
     lowest true m = let e : (1 + 2 * m) % 2 ≡ 1 = omega arith in ap (λ r. r == 1) e
@@ -206,16 +218,20 @@ module _ (base n : ℕ) (fits : n < 2 ^ 64) where
   pub none : n ≡ 0 → set_places base (bits 64 n) ≡ []
   none e = no_places base (bits 64 n) (is ∙ e)
 
-  pub lowest_first : 0 < n → set_places base (bits 64 n) ≡ (base + count_trailing_zeros 64 n) ∷ set_places base (bits 64 (bit_and n (n - 1)))
+  pub lowest_first : 0 < n
+      → set_places base (bits 64 n) ≡ (base + count_trailing_zeros 64 n) ∷ set_places base (bits 64 (bit_and n (n - 1)))
   lowest_first h =
       let some : 0 < mask_l (bits 64 n) = omega (arith, is, h) in
       let size = length-bits 64 n in
       let clear : mask_l (cleared (bits 64 n)) ≡ bit_and n (n - 1) = mask_cleared (bits 64 n) some ∙ ap (λ m. bit_and m (m - 1)) is in
       next_place base (bits 64 n) some (omega (arith, size))
-      ∙ ap₂ (λ j js. (base + j) ∷ js) (ap (count_trailing_zeros 64) is) (sym (same_places 64 base (cleared (bits 64 n)) (omega (arith, length-cleared (bits 64 n), size))) ∙ ap (λ m. set_places base (bits 64 m)) clear)
+      ∙ ap₂ (λ j js. (base + j) ∷ js) (ap (count_trailing_zeros 64) is)
+      (sym (same_places 64 base (cleared (bits 64 n)) (omega (arith, length-cleared (bits 64 n), size)))
+      ∙ ap (λ m. set_places base (bits 64 m)) clear)
 
   -- where such a number is noted in a list with room for 64 places more, the list has room for the next
-  pub room : (at from whole size : ℕ) → 0 < n → whole < 2 ^ 64 → at + length (set_places base (bits 64 n)) ≡ from + length (set_places base (bits 64 whole)) → from + 64 ≤ size → at < size
+  pub room : (at from whole size : ℕ) → 0 < n → whole < 2 ^ 64
+      → at + length (set_places base (bits 64 n)) ≡ from + length (set_places base (bits 64 whole)) → from + 64 ≤ size → at < size
   room at from whole size some fits same h = let one = ap length (lowest_first some) in omega (arith, one, same, h, few_of whole fits)
     where
       few_of : (m : ℕ) → m < 2 ^ 64 → length (set_places base (bits 64 m)) ≤ 64

@@ -1,11 +1,13 @@
 -- The edges of the runs of a list, read off block by block.
-use Rattle.std.proofs.Common.{◌≡◌, ◌≤◌, ◌<◌, ◌+◌, ◌-◌, ◌*◌, ◌/◌, ◌%◌, ◌^◌, ◌==◌, ◌&&◌, ◌||◌, ℕ, zero, suc, Bool, true, false, not, cond, List, [], ◌∷◌, ◌++◌, length, take, drop, map, get_or, bit_and, bit_xor, refl, sym, ap, ap₂, ◌∙◌, arith}
+use Rattle.std.proofs.Common.{◌≡◌, ◌≤◌, ◌<◌, ◌+◌, ◌-◌, ◌*◌, ◌/◌, ◌%◌, ◌^◌, ◌==◌, ◌&&◌, ◌||◌, ℕ, zero, suc, Bool, true, false, not, cond}
+use Rattle.std.proofs.Common.{List, [], ◌∷◌, ◌++◌, length, take, drop, map, get_or, bit_and, bit_xor, refl, sym, ap, ap₂, ◌∙◌, arith}
 use Rattle.std.specs.List.{prefix_len, range_with_len}
 use Rattle.std.specs.Prelude.{filter, flat_map, slice_range}
 use Rattle.std.specs.Simd.Lanes.{mask_l, zip2}
 use Rattle.std.proofs.Math.Seq.{take-add}
 use Rattle.std.proofs.lemmas.Bool.{ne_eqb}
-use Rattle.std.proofs.lemmas.List.{drop_more, drop-drop, length-take, length-take-le, length-map, take-map, take-take, map-append, length-drop}
+use Rattle.std.proofs.lemmas.List.{drop_more, drop-drop, length-take, length-take-le, length-map, take-map, take-take, map-append}
+use Rattle.std.proofs.lemmas.List.{length-drop}
 use Rattle.std.proofs.lemmas.List.Sums.{prefix_len-le-length}
 use Rattle.std.proofs.lemmas.Nat.{and_mask}
 use Rattle.std.proofs.lemmas.Nat.Bits.{ones_shr, shr_and_one}
@@ -25,11 +27,13 @@ last_of before [] = before
 last_of before (b ∷ bs) = last_of b bs
 
 -- the edges of a block, and then those of the rest
-pub block : (c : Bool) (k : ℕ) (bs rest : List Bool) → edges_from c k (bs ++ rest) ≡ set_places k (zip2 differs bs (c ∷ bs)) ++ edges_from (last_of c bs) (k + length bs) rest
+pub block : (c : Bool) (k : ℕ) (bs rest : List Bool)
+    → edges_from c k (bs ++ rest) ≡ set_places k (zip2 differs bs (c ∷ bs)) ++ edges_from (last_of c bs) (k + length bs) rest
 block c k [] rest = ap (λ j. edges_from c j rest) (omega arith)
 block c k (b ∷ bs) rest =
     let here : k + 1 + length bs ≡ k + suc (length bs) = omega arith in
-    by _ _ _ (differs b c) (block b (k + 1) bs rest ∙ ap (λ j. set_places (k + 1) (zip2 differs bs (b ∷ bs)) ++ edges_from (last_of b bs) j rest) here)
+    by _ _ _ (differs b c)
+    (block b (k + 1) bs rest ∙ ap (λ j. set_places (k + 1) (zip2 differs bs (b ∷ bs)) ++ edges_from (last_of b bs) j rest) here)
   where
     by : (S R E : List ℕ) (d : Bool) → E ≡ S ++ R → cond d (k ∷ E) E ≡ cond d (k ∷ S) S ++ R
     by S R E true e = ap (λ es. k ∷ es) e
@@ -44,7 +48,8 @@ last_of-take c (b ∷ bs) (suc n) h = last_of-take b bs n (omega (arith, h))
 pub last_bit : (c : Bool) (bs : List Bool) (n : ℕ) → 0 < n → n ≤ length bs → mask_l bs / 2 ^ (n - 1) % 2 ≡ cond (last_of c (take n bs)) 1 0
 last_bit c bs n some inside =
     let whole : suc (n - 1) ≡ n = omega (arith, some) in
-    bit_mask_l bs (n - 1) ∙ ap (λ b. cond b 1 0) (sym (last_of-take c bs (n - 1) (omega (arith, some, inside))) ∙ ap (λ m. last_of c (take m bs)) whole)
+    bit_mask_l bs (n - 1)
+    ∙ ap (λ b. cond b 1 0) (sym (last_of-take c bs (n - 1) (omega (arith, some, inside))) ∙ ap (λ m. last_of c (take m bs)) whole)
 
 pub is_bit : (b : Bool) → (cond b 1 0 == 1) ≡ b
 is_bit true = refl
@@ -72,13 +77,15 @@ module _ (test : ℕ → Bool) (xs : List ℕ) where
   run_length k = length-take-le (prefix_len test (drop k xs)) (drop k xs) (prefix_len-le-length test (drop k xs))
 
   step : (t b : Bool) (k next size : ℕ) (R : List ℕ) → prefix_len test (drop k xs) ≡ cond t (1 + size) 0 → next ≡ k + 1 + size
-      → cond (differs t b) (k ∷ (cond t (next ∷ []) [] ++ flat_map pair R)) (cond t (next ∷ []) [] ++ flat_map pair R) ≡ open_run b k ++ flat_map pair (cond (t && not b) (k ∷ R) R)
+      → cond (differs t b) (k ∷ (cond t (next ∷ []) [] ++ flat_map pair R)) (cond t (next ∷ []) [] ++ flat_map pair R)
+      ≡ open_run b k ++ flat_map pair (cond (t && not b) (k ∷ R) R)
   step true true k next size R e f = ap (λ j. j ∷ flat_map pair R) (omega (arith, e, f))
   step true false k next size R e f = ap (λ j. k ∷ j ∷ flat_map pair R) (let l = run_length k in omega (arith, e, f, l))
   step false true k next size R e f = ap (λ j. j ∷ flat_map pair R) (omega (arith, e))
   step false false k next size R e f = refl
 
-  from_place : (n k : ℕ) (b : Bool) → k + n ≡ length xs → b ≡ before k → edges_from b k (map test (drop k xs)) ≡ open_run b k ++ flat_map pair (filter (begins test xs) (range_with_len k n))
+  from_place : (n k : ℕ) (b : Bool) → k + n ≡ length xs → b ≡ before k
+      → edges_from b k (map test (drop k xs)) ≡ open_run b k ++ flat_map pair (filter (begins test xs) (range_with_len k n))
   from_place zero k b whole is = rw (all) (by b)
     where
       all : drop k xs ≡ []
@@ -94,7 +101,9 @@ module _ (test : ℕ → Bool) (xs : List ℕ) where
   from_place (suc n) k b whole is =
       let first : drop k xs ≡ get_or xs k 0 ∷ drop (k + 1) xs = drop_more xs k 0 (omega (arith, whole)) in
       let t = test (get_or xs k 0) in
-      let later : edges_from t (k + 1) (map test (drop (k + 1) xs)) ≡ open_run t (k + 1) ++ flat_map pair (filter (begins test xs) (range_with_len (k + 1) n)) = from_place n (k + 1) t (omega (arith, whole)) (behind k) in
+      let later : edges_from t (k + 1) (map test (drop (k + 1) xs))
+      ≡ open_run t (k + 1) ++ flat_map pair (filter (begins test xs) (range_with_len (k + 1) n)) =
+      from_place n (k + 1) t (omega (arith, whole)) (behind k) in
       let rest = filter (begins test xs) (range_with_len (k + 1) n) in
       ap (λ ys. edges_from b k (map test ys)) first
       ∙ ap (λ es. cond (differs t b) (k ∷ es) es) later
@@ -112,17 +121,20 @@ module _ (test : ℕ → Bool) (xs : List ℕ) where
   edges_of_runs = from_place (length xs) 0 false (omega arith) refl
 
 -- a stretch of a text: its first bytes, and the rest
-pub stretch_split : (xs : List ℕ) (at size to : ℕ) → at + size ≤ to → slice_range xs at to ≡ take size (drop at xs) ++ slice_range xs (at + size) to
+pub stretch_split : (xs : List ℕ) (at size to : ℕ) → at + size ≤ to
+    → slice_range xs at to ≡ take size (drop at xs) ++ slice_range xs (at + size) to
 stretch_split xs at size to h =
     let whole : to - at ≡ size + (to - (at + size)) = omega (arith, h) in
-    ap (λ n. take n (drop at xs)) whole ∙ take-add size (to - (at + size)) (drop at xs) ∙ ap (λ ys. take size (drop at xs) ++ take (to - (at + size)) ys) (drop-drop size at xs)
+    ap (λ n. take n (drop at xs)) whole ∙ take-add size (to - (at + size)) (drop at xs)
+    ∙ ap (λ ys. take size (drop at xs) ++ take (to - (at + size)) ys) (drop-drop size at xs)
 
 short_zip : (bs : List Bool) (c : Bool) → length (zip2 differs bs (c ∷ bs)) ≤ length bs
 short_zip [] c = omega arith
 short_zip (b ∷ bs) c = let h = short_zip bs b in omega (arith, h)
 
 -- one block of a stretch, as its mask shows it: the places of its changes, how many there are, and the edges behind them
-module _ (test : ℕ → Bool) (xs : List ℕ) (base at to size mask before : ℕ) (some : 0 < size) (few : size ≤ 64) (order : at + size ≤ to) (inside : to ≤ length xs) (mask_is : mask ≡ mask_l (map test (take 64 (drop at xs)))) (bit : before ≤ 1) where
+module _ (test : ℕ → Bool) (xs : List ℕ) (base at to size mask before : ℕ) (some : 0 < size) (few : size ≤ 64) (order : at + size ≤ to)
+    (inside : to ≤ length xs) (mask_is : mask ≡ mask_l (map test (take 64 (drop at xs)))) (bit : before ≤ 1) where
   abbrev pub changed : ℕ
   changed = bit_and (bit_xor mask (mask * 2 % 2 ^ 64 + before)) ((2 ^ 64 - 1) / 2 ^ (64 - size))
 
@@ -154,7 +166,8 @@ module _ (test : ℕ → Bool) (xs : List ℕ) (base at to size mask before : �
 
   changed_is : changed ≡ mask_l (zip2 differs these ((before == 1) ∷ these))
   changed_is =
-      let kept : (2 ^ 64 - 1) / 2 ^ (64 - size) ≡ 2 ^ size - 1 = ones_shr 64 (64 - size) (omega arith) ∙ ap (λ n. 2 ^ n - 1) (omega (arith, few)) in
+      let kept : (2 ^ 64 - 1) / 2 ^ (64 - size) ≡ 2 ^ size - 1 =
+      ones_shr 64 (64 - size) (omega arith) ∙ ap (λ n. 2 ^ n - 1) (omega (arith, few)) in
       ap (bit_and (bit_xor mask (mask * 2 % 2 ^ 64 + before))) kept
       ∙ and_mask (bit_xor mask (mask * 2 % 2 ^ 64 + before)) size
       ∙ ap₂ (λ m b. bit_xor m (m * 2 % 2 ^ 64 + b) % 2 ^ size) mask_is carried
@@ -162,24 +175,32 @@ module _ (test : ℕ → Bool) (xs : List ℕ) (base at to size mask before : �
       ∙ ap (λ bs. mask_l (zip2 differs bs ((before == 1) ∷ bs))) fronted
 
   noted : set_places base (bits 64 changed) ≡ set_places base (zip2 differs these ((before == 1) ∷ these))
-  noted = ap (λ m. set_places base (bits 64 m)) changed_is ∙ same_places 64 base (zip2 differs these ((before == 1) ∷ these)) (omega (arith, short_zip these (before == 1), length-these, few))
+  noted = ap (λ m. set_places base (bits 64 m)) changed_is
+      ∙ same_places 64 base (zip2 differs these ((before == 1) ∷ these)) (omega (arith, short_zip these (before == 1), length-these, few))
 
   pub few_noted : length (set_places base (bits 64 changed)) ≤ size
-  few_noted = omega (arith, ap length noted, few_places base (zip2 differs these ((before == 1) ∷ these)), short_zip these (before == 1), length-these)
+  few_noted = omega
+      (arith, ap length noted, few_places base (zip2 differs these ((before == 1) ∷ these)), short_zip these (before == 1), length-these)
 
   last_is : last ≡ cond (last_of (before == 1) these) 1 0
-  last_is = shr_and_one mask (size - 1) ∙ ap (λ m. m / 2 ^ (size - 1) % 2) mask_is ∙ last_bit (before == 1) all size some enough ∙ ap (λ bs. cond (last_of (before == 1) bs) 1 0) fronted
+  last_is = shr_and_one mask (size - 1) ∙ ap (λ m. m / 2 ^ (size - 1) % 2) mask_is ∙ last_bit (before == 1) all size some enough
+      ∙ ap (λ bs. cond (last_of (before == 1) bs) 1 0) fronted
 
-  pub next_block : edges_from (before == 1) base (map test (slice_range xs at to)) ≡ set_places base (bits 64 changed) ++ edges_from (last == 1) (base + size) (map test (slice_range xs (at + size) to))
+  pub next_block : edges_from (before == 1) base (map test (slice_range xs at to))
+      ≡ set_places base (bits 64 changed) ++ edges_from (last == 1) (base + size) (map test (slice_range xs (at + size) to))
   next_block =
       ap (λ ys. edges_from (before == 1) base (map test ys)) (stretch_split xs at size to order)
       ∙ ap (edges_from (before == 1) base) (map-append test (take size (drop at xs)) (slice_range xs (at + size) to))
       ∙ block (before == 1) base these (map test (slice_range xs (at + size) to))
-      ∙ ap₂ (λ es n. es ++ edges_from (last_of (before == 1) these) (base + n) (map test (slice_range xs (at + size) to))) (sym noted) length-these
-      ∙ ap (λ b. set_places base (bits 64 changed) ++ edges_from b (base + size) (map test (slice_range xs (at + size) to))) (sym (ap (λ n. n == 1) last_is ∙ is_bit (last_of (before == 1) these)))
+      ∙ ap₂ (λ es n. es ++ edges_from (last_of (before == 1) these) (base + n) (map test (slice_range xs (at + size) to)))
+      (sym noted) length-these
+      ∙ ap (λ b. set_places base (bits 64 changed) ++ edges_from b (base + size) (map test (slice_range xs (at + size) to)))
+      (sym (ap (λ n. n == 1) last_is ∙ is_bit (last_of (before == 1) these)))
 
 -- behind the last block the end is an edge where its last bit was set
-pub at_end : (test : ℕ → Bool) (xs : List ℕ) (from at to before : ℕ) → at ≡ to → edges_from (before == 1) (at - from) (map test (slice_range xs at to)) ≡ cond (before == 1) ((to - from) ∷ []) []
+pub at_end : (test : ℕ → Bool) (xs : List ℕ) (from at to before : ℕ) → at ≡ to
+    → edges_from (before == 1) (at - from) (map test (slice_range xs at to)) ≡ cond (before == 1) ((to - from) ∷ []) []
 at_end test xs from at to before e =
     let none : to - to ≡ 0 = omega arith in
-    ap (λ k. edges_from (before == 1) (k - from) (map test (slice_range xs k to))) e ∙ ap (λ n. edges_from (before == 1) (to - from) (map test (take n (drop to xs)))) none
+    ap (λ k. edges_from (before == 1) (k - from) (map test (slice_range xs k to))) e
+    ∙ ap (λ n. edges_from (before == 1) (to - from) (map test (take n (drop to xs)))) none

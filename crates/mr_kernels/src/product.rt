@@ -1,5 +1,6 @@
 ghost use Rattle.std.specs.Prelude.{◌≡◌, ◌≤◌, ◌<◌, ◌*◌, ◌*ℤ◌, pos, length, slice_index_or, nat_abs, All};
 ghost use Rattle.mr_defs.specs.Folded.{limit, total};
+ghost use Rattle.mr_defs.specs.Limits.{greatest_element};
 ghost use Rattle.mr_kernels.specs.Product.{products, pair_sum_of};
 
 /// The most that the magnitudes of the products may add up to.
@@ -7,8 +8,8 @@ const LIMIT: u64 = 9223372036854775807;
 
 /// The largest magnitude of the numbers, or 0.
 fn largest(numbers: &[i32]) -> u64
-    requires { All (λ z. nat_abs z ≤ 2147483647) numbers.now }
-    ensures most { result ≤ 2147483647 }
+    requires { All (λ z. nat_abs z ≤ greatest_element) numbers.now }
+    ensures most { result ≤ greatest_element }
     ensures bound { All (λ z. nat_abs z ≤ result) numbers.now }
 {
     let mut most = 0;
@@ -48,8 +49,8 @@ fn plain_sum(a: &[i32], b: &[i32], left: u64, right: u64) -> i64
 /// The sum of the products of two rows, with their magnitudes added up beside it.
 fn exact_sum(a: &[i32], b: &[i32]) -> Option<i64>
     requires lengths { length a.now ≡ length b.now }
-    requires left { All (λ z. nat_abs z ≤ 2147483647) a.now }
-    requires right { All (λ z. nat_abs z ≤ 2147483647) b.now }
+    requires left { All (λ z. nat_abs z ≤ greatest_element) a.now }
+    requires right { All (λ z. nat_abs z ≤ greatest_element) b.now }
     ensures { result ≡ pair_sum_of a.now b.now }
 {
     let mut sum = 0i64;
@@ -69,8 +70,8 @@ fn exact_sum(a: &[i32], b: &[i32]) -> Option<i64>
 /// 9223372036854775807.
 pub fn pair_sum(a: &[i32], b: &[i32]) -> Option<i64>
     requires lengths { length a.now ≡ length b.now }
-    requires left { All (λ z. nat_abs z ≤ 2147483647) a.now }
-    requires right { All (λ z. nat_abs z ≤ 2147483647) b.now }
+    requires left { All (λ z. nat_abs z ≤ greatest_element) a.now }
+    requires right { All (λ z. nat_abs z ≤ greatest_element) b.now }
     ensures { result ≡ pair_sum_of a.now b.now }
 {
     let left = largest(a);

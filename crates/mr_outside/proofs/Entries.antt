@@ -1,5 +1,6 @@
 -- The entries of a shelf in memory by index and by name.
-use Rattle.std.proofs.Common.{cond, Bool, false, true, ◌++◌, length-append, ◌≡◌, ◌≤◌, ◌<◌, ◌+◌, ◌-◌, ℕ, zero, suc, List, [], ◌∷◌, length, take, drop, Some, None, get_or, refl, sym, ◌∙◌, ap, arith}
+use Rattle.std.proofs.Common.{cond, Bool, false, true, ◌++◌, length-append, ◌≡◌, ◌≤◌, ◌<◌, ◌+◌, ◌-◌, ℕ, zero, suc, List, [], ◌∷◌, length}
+use Rattle.std.proofs.Common.{take, drop, Some, None, get_or, refl, sym, ◌∙◌, ap, arith}
 use Rattle.std.specs.Prelude.{slice_get, replicate}
 use Rattle.std.specs.Str.{bytes_eq}
 use Rattle.std.specs.declared.option.Option.{Option}

@@ -16,4 +16,5 @@ pub appends_more : (a b c : Option (List ℕ)) (bytes : List ℕ) (done n : ℕ)
 appends_more None b c bytes done n first next = tt
 appends_more (Some xs) None c bytes done n first next = absurd first
 appends_more (Some xs) (Some ys) None bytes done n first next = absurd next
-appends_more (Some xs) (Some ys) (Some zs) bytes done n first next = rw (next, first, take-add done n bytes, to_end bytes done, append_assoc) refl
+appends_more (Some xs) (Some ys) (Some zs) bytes done n first next =
+    rw (next, first, take-add done n bytes, to_end bytes done, append_assoc) refl

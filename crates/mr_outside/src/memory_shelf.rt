@@ -1,4 +1,5 @@
-ghost use Rattle.std.specs.Prelude.{◌≡◌, ◌≤◌, ◌<◌, ◌+◌, ◌-◌, ◌^◌, ◌⊎◌, ◌↔◌, ◌++◌, ◌∷◌, [], ℕ, List, IfOk, IfSome, IfNone, OnOk, OnErr, IsTrue, Some, None, length, min, take, drop, replicate, slice_get, unwrap_or, is_some, true, false};
+ghost use Rattle.std.specs.Prelude.{◌≡◌, ◌≤◌, ◌<◌, ◌+◌, ◌-◌, ◌^◌, ◌⊎◌, ◌↔◌, ◌++◌, ◌∷◌, [], ℕ, List, IfOk, IfSome, IfNone, OnOk, OnErr};
+ghost use Rattle.std.specs.Prelude.{IsTrue, Some, None, length, min, take, drop, replicate, slice_get, unwrap_or, is_some, true, false};
 ghost use Rattle.mr_outside.specs.Calls.{no_calls, failing_at, called, fails_next};
 ghost use Rattle.mr_outside.specs.Count.{Rose};
 ghost use Rattle.mr_outside.specs.Entry.{contents_of, content_of};

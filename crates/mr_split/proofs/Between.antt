@@ -1,11 +1,12 @@
 -- The parts between cuts, built up one cut after the other.
-use Rattle.std.proofs.Common.{◌≡◌, inl, inr, ℕ, ◌+◌, ◌-◌, ◌*◌, ◌/◌, ◌<◌, ◌≤◌, ◌==◌, Bool, true, false, List, [], ◌∷◌, ◌++◌, length, map, refl, sym, ◌∙◌, ap, ap₂, subst, arith, eq-eqb, if◌then◌else◌}
+use Rattle.std.proofs.Common.{◌≡◌, inl, inr, ℕ, ◌+◌, ◌-◌, ◌*◌, ◌/◌, ◌<◌, ◌≤◌, ◌==◌, Bool, true, false, List, [], ◌∷◌, ◌++◌, length, map}
+use Rattle.std.proofs.Common.{refl, sym, ◌∙◌, ap, ap₂, subst, arith, eq-eqb, if◌then◌else◌}
 use Rattle.std.specs.List.{range_with_len}
 use Rattle.std.proofs.lemmas.Bool.{cases_lt, cases_eq, ne_eqb}
 use Rattle.std.proofs.lemmas.List.FromFn.{map-range_with_len_more}
 use Rattle.std.proofs.lemmas.List.{length-append}
 use Rattle.std.proofs.Math.Nat.{div-mul-le_self, mul-le-mul_right}
-use Rattle.mr_defs.specs.Tasks.{Stretch, boundary_from, step_of}
+use Rattle.mr_defs.specs.Tasks.{Stretch, boundary_from, most_tasks, step_of}
 use Rattle.mr_split.proofs.Forward.{boundary_from_same}
 
 -- the parts from a place to the next cut, and so on; cuts that coincide have none between them
@@ -29,7 +30,8 @@ pub parts_other : (from : ℕ) (cuts : List ℕ) (c : ℕ) → (c == from) ≡ f
 parts_other from cuts c e = rw e refl
 
 -- one cut more, behind the last; and the last once more
-parts_from-push : (from : ℕ) (cuts : List ℕ) (cut : ℕ) → end_of from cuts < cut → parts_from from (cuts ++ cut ∷ []) ≡ parts_from from cuts ++ (end_of from cuts, cut) ∷ []
+parts_from-push : (from : ℕ) (cuts : List ℕ) (cut : ℕ) → end_of from cuts < cut
+    → parts_from from (cuts ++ cut ∷ []) ≡ parts_from from cuts ++ (end_of from cuts, cut) ∷ []
 parts_from-push from [] cut less = parts_other from [] cut (ne_eqb cut from (λ e. omega (arith, e, less)))
 parts_from-push from (c ∷ cuts) cut less = elim (cases_eq c from) [
   | inl same ↦ let e : (c == from) ≡ true = eq-eqb c from same in
@@ -44,9 +46,11 @@ parts_from-again : (from : ℕ) (cuts : List ℕ) (cut : ℕ) → cut ≡ end_of
 parts_from-again from [] cut same = parts_same from [] cut (eq-eqb cut from same)
 parts_from-again from (c ∷ cuts) cut same = elim (cases_eq c from) [
   | inl here ↦ let e : (c == from) ≡ true = eq-eqb c from here in
-      parts_same from (cuts ++ cut ∷ []) c e ∙ parts_from-again from cuts cut (same ∙ ap (λ p. end_of p cuts) here) ∙ sym (parts_same from cuts c e)
+      parts_same from (cuts ++ cut ∷ []) c e ∙ parts_from-again from cuts cut (same ∙ ap (λ p. end_of p cuts) here)
+      ∙ sym (parts_same from cuts c e)
   | inr differ ↦ let e : (c == from) ≡ false = ne_eqb c from differ in
-      parts_other from (cuts ++ cut ∷ []) c e ∙ ap (λ ps. (from, c) ∷ ps) (parts_from-again c cuts cut same) ∙ sym (parts_other from cuts c e)
+      parts_other from (cuts ++ cut ∷ []) c e ∙ ap (λ ps. (from, c) ∷ ps) (parts_from-again c cuts cut same)
+      ∙ sym (parts_other from cuts c e)
 ]
 
 module _ (b : ℕ → Bool) (len step : ℕ) where
@@ -80,8 +84,10 @@ module _ (b : ℕ → Bool) (len step : ℕ) where
       | inl more ↦
           let before : n * step ≤ (n + 1) * step = mul-le-mul_right step (omega arith) in
           let back : (n - 1) + 1 ≡ n = omega arith in
-          let here : last ≡ boundary_from b len (n * step) = is ∙ subst (λ k. end_of 0 (moved k) ≡ boundary_from b len (k * step)) back (end_of-moved (n - 1)) in
-          here ∙ sym (boundary_from_same b len (n * step) ((n + 1) * step) (omega (arith, before, within)) before (omega (arith, here, upto)))
+          let here : last ≡ boundary_from b len (n * step) =
+          is ∙ subst (λ k. end_of 0 (moved k) ≡ boundary_from b len (k * step)) back (end_of-moved (n - 1)) in
+          here ∙ sym
+          (boundary_from_same b len (n * step) ((n + 1) * step) (omega (arith, before, within)) before (omega (arith, here, upto)))
       | inr none ↦
           let zero : last ≡ 0 = is ∙ ap (λ k. end_of 0 (moved k)) (let e : n ≡ 0 = omega arith in e) in
           let one : 1 * step ≤ (n + 1) * step = mul-le-mul_right step (omega arith) in
@@ -89,32 +95,36 @@ module _ (b : ℕ → Bool) (len step : ℕ) where
     ]
 
     -- the next multiple goes where the last cut stands
-    pub stayed : 1 ≤ step → (n + 1) * step ≤ len → (n + 1) * step ≤ last → (items ≡ parts_from 0 (moved (n + 1))) × (last ≡ end_of 0 (moved (n + 1)))
+    pub stayed : 1 ≤ step → (n + 1) * step ≤ len → (n + 1) * step ≤ last
+        → (items ≡ parts_from 0 (moved (n + 1))) × (last ≡ end_of 0 (moved (n + 1)))
     stayed some within upto =
         let same : last ≡ boundary_from b len ((n + 1) * step) = same_end some within upto in (
-          are ∙ sym (parts_from-again 0 (moved n) (boundary_from b len ((n + 1) * step)) (sym same ∙ is)) ∙ ap (parts_from 0) (sym (moved-next n)),
+          are ∙ sym (parts_from-again 0 (moved n) (boundary_from b len ((n + 1) * step)) (sym same ∙ is))
+              ∙ ap (parts_from 0) (sym (moved-next n)),
           same ∙ sym (end_of-moved n),
         )
 
     -- the part up to the end, where there is one
     pub ended : last < len → items ++ (last, len) ∷ [] ≡ parts_from 0 (moved n ++ len ∷ [])
-    ended less = ap₂ (λ (ps : List Stretch) (p : ℕ). ps ++ (p, len) ∷ []) are is ∙ sym (parts_from-push 0 (moved n) len (omega (arith, is, less)))
+    ended less =
+        ap₂ (λ (ps : List Stretch) (p : ℕ). ps ++ (p, len) ∷ []) are is ∙ sym (parts_from-push 0 (moved n) len (omega (arith, is, less)))
 
     pub ended_there : len ≤ last → last ≤ len → items ≡ parts_from 0 (moved n ++ len ∷ [])
     ended_there ge le = are ∙ sym (parts_from-again 0 (moved n) len (let e : len ≡ last = omega arith in e ∙ is))
 
 pub longer : {X : Type 0} (items more : List X) (x : X) (n : ℕ) → more ≡ items ++ x ∷ [] → length items ≤ n → length more ≤ n + 1
-longer items more x n e le = let size : length more ≡ length items + 1 = ap length e ∙ length-append items (x ∷ []) in omega (arith, size, le)
+longer items more x n e le = let size : length more ≡ length items + 1 = ap length e ∙ length-append items (x ∷ []) in
+    omega (arith, size, le)
 
 -- no more than 1048576 parts
-pub step_enough : (size chunk : ℕ) → size ≤ step_of chunk size * 1048576
+pub step_enough : (size chunk : ℕ) → size ≤ step_of chunk size * most_tasks
 step_enough size chunk = omega arith
 
-pub few_cuts : (len step : ℕ) → 1 ≤ step → len ≤ step * 1048576 → (len - 1) / step < 1048576
-few_cuts len step some enough = elim (cases_lt ((len - 1) / step) 1048576) [
+pub few_cuts : (len step : ℕ) → 1 ≤ step → len ≤ step * most_tasks → (len - 1) / step < most_tasks
+few_cuts len step some enough = elim (cases_lt ((len - 1) / step) most_tasks) [
   | inl few ↦ few
   | inr more ↦
       let back : (len - 1) / step * step ≤ len - 1 = div-mul-le_self (len - 1) step in
-      let big : 1048576 * step ≤ (len - 1) / step * step = mul-le-mul_right step more in
+      let big : most_tasks * step ≤ (len - 1) / step * step = mul-le-mul_right step more in
       absurd (omega (arith, back, big, some, enough))
 ]

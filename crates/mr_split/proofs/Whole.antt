@@ -1,5 +1,6 @@
 -- All cuts of a text: the parts between them are the pieces of the definition, and what they have together is what the text has.
-use Rattle.std.proofs.Common.{◌≡◌, inl, inr, ℕ, zero, suc, ◌+◌, ◌-◌, ◌*◌, ◌/◌, ◌<◌, ◌≤◌, ◌==◌, Bool, true, false, cond, List, [], ◌∷◌, ◌++◌, length, map, take, drop, refl, sym, ◌∙◌, ap, subst, arith, eq-eqb, map-id, if◌then◌else◌}
+use Rattle.std.proofs.Common.{◌≡◌, inl, inr, ℕ, zero, suc, ◌+◌, ◌-◌, ◌*◌, ◌/◌, ◌<◌, ◌≤◌, ◌==◌, Bool, true, false, cond, List, [], ◌∷◌, ◌++◌}
+use Rattle.std.proofs.Common.{length, map, take, drop, refl, sym, ◌∙◌, ap, subst, arith, eq-eqb, map-id, if◌then◌else◌}
 use Rattle.std.specs.Prelude.{nat_lt, nat_eq, filter, flat_map, zip}
 use Rattle.std.specs.List.{range_with_len, dedup, dedup_from, All}
 use Rattle.std.proofs.lemmas.Bool.{cases_lt, cases_eq, ne_eqb, or_left, or_right, lt-ltb, le-ltb}
@@ -34,7 +35,9 @@ module _ (b : ℕ → Bool) (len : ℕ) (end : b len ≡ true) where
         later (k * step) (omega arith) inside,
         boundary_from_bound b len (k * step) inside,
         boundary_from_boundary b len (k * step) end inside,
-        rise_from step (boundary_from b len (k * step)) (k + 1) n (λ q from to. boundary_from_rises b len (k * step) q to (omega (arith, next, from))) (subst (λ m. m * step ≤ len + step) more small),
+        rise_from step (boundary_from b len (k * step)) (k + 1) n
+            (λ q from to. boundary_from_rises b len (k * step) q to (omega (arith, next, from)))
+            (subst (λ m. m * step ≤ len + step) more small),
       )
 
   moved_rise : (step : ℕ) → 1 ≤ step → Rises 1 (moved b len step ((len - 1) / step))
@@ -49,7 +52,8 @@ module _ (b : ℕ → Bool) (len : ℕ) (end : b len ≡ true) where
       parts_same len (cuts ++ len ∷ []) cut (eq-eqb cut len there) ∙ none_behind cuts (subst (λ p. Rises p cuts) there r.3)
 
   part_and_rest : (from cut : ℕ) (cuts : List ℕ) → from < cut → cut ≤ len → Rises cut cuts
-      → cond (nat_lt cut len) ((from, cut) ∷ parts_from cut (cuts ++ len ∷ [])) ((from, len) ∷ []) ≡ parts_from from (cut ∷ cuts ++ len ∷ [])
+      → cond (nat_lt cut len) ((from, cut) ∷ parts_from cut (cuts ++ len ∷ [])) ((from, len) ∷ [])
+      ≡ parts_from from (cut ∷ cuts ++ len ∷ [])
   part_and_rest from cut cuts less le r = elim (cases_lt cut len) [
     | inl before ↦ ap (λ t. cond t ((from, cut) ∷ parts_from cut (cuts ++ len ∷ [])) ((from, len) ∷ [])) (lt-ltb cut len before) ∙ sym other
     | inr behind ↦
@@ -69,9 +73,12 @@ module _ (b : ℕ → Bool) (len : ℕ) (end : b len ≡ true) where
   abbrev between : ℕ → List ℕ → List Stretch
   between from cuts = zip (from ∷ below cuts) (below cuts ++ len ∷ [])
 
-  kept : (from cut : ℕ) (cuts : List ℕ) → cut ≤ len → Rises cut cuts → between from (dedup_from nat_eq cut cuts) ≡ cond (nat_lt cut len) ((from, cut) ∷ parts_from cut (cuts ++ len ∷ [])) ((from, len) ∷ [])
+  kept : (from cut : ℕ) (cuts : List ℕ) → cut ≤ len → Rises cut cuts
+      → between from (dedup_from nat_eq cut cuts)
+      ≡ cond (nat_lt cut len) ((from, cut) ∷ parts_from cut (cuts ++ len ∷ [])) ((from, len) ∷ [])
   kept from cut [] le r = elim (cases_lt cut len) [
-    | inl before ↦ rw (lt-ltb cut len before) (ap (λ l. (from, cut) ∷ l) (sym (parts_other cut [] len (ne_eqb len cut (λ e. omega (arith, e, before))))))
+    | inl before ↦ rw (lt-ltb cut len before)
+        (ap (λ l. (from, cut) ∷ l) (sym (parts_other cut [] len (ne_eqb len cut (λ e. omega (arith, e, before))))))
     | inr behind ↦ rw (le-ltb cut len behind) refl
   ]
   kept from cut (next ∷ cuts) le r = elim (cases_eq next cut) [
@@ -84,7 +91,8 @@ module _ (b : ℕ → Bool) (len : ℕ) (end : b len ≡ true) where
         let e : (next == cut) ≡ false = ne_eqb next cut differ in
         let before : nat_lt cut len ≡ true = lt-ltb cut len (omega (arith, differ, r.0, r.1)) in
         ap (λ t. between from (cond t (dedup_from nat_eq cut cuts) (cut ∷ dedup_from nat_eq next cuts))) e
-        ∙ ap (λ t. zip (from ∷ cond t (cut ∷ below (dedup_from nat_eq next cuts)) (below (dedup_from nat_eq next cuts))) (cond t (cut ∷ below (dedup_from nat_eq next cuts)) (below (dedup_from nat_eq next cuts)) ++ len ∷ [])) before
+        ∙ ap (λ t. zip (from ∷ cond t (cut ∷ below (dedup_from nat_eq next cuts)) (below (dedup_from nat_eq next cuts)))
+        (cond t (cut ∷ below (dedup_from nat_eq next cuts)) (below (dedup_from nat_eq next cuts)) ++ len ∷ [])) before
         ∙ ap (λ l. (from, cut) ∷ l) (kept cut next cuts r.1 r.3 ∙ part_and_rest cut next cuts (omega (arith, differ, r.0)) r.1 r.3)
         ∙ ap (λ t. cond t ((from, cut) ∷ parts_from cut (next ∷ cuts ++ len ∷ [])) ((from, len) ∷ [])) (sym before)
   ]
@@ -93,21 +101,27 @@ module _ (b : ℕ → Bool) (len : ℕ) (end : b len ≡ true) where
   whole [] r = refl
   whole (cut ∷ cuts) r =
       let some : (len == 0) ≡ false = ne_eqb len 0 (λ e. omega (arith, e, r.0, r.1)) in
-      sym (ap (λ t. if t then [] else between 0 (dedup_from nat_eq cut cuts)) some ∙ kept 0 cut cuts r.1 r.3 ∙ part_and_rest 0 cut cuts (omega (arith, r.0)) r.1 r.3)
+      sym (ap (λ t. if t then [] else between 0 (dedup_from nat_eq cut cuts)) some ∙ kept 0 cut cuts r.1 r.3
+      ∙ part_and_rest 0 cut cuts (omega (arith, r.0)) r.1 r.3)
 
-  pub pieces_of-moved : (chunk : ℕ) → 1 ≤ step_of chunk len → parts_from 0 (moved b len (step_of chunk len) ((len - 1) / step_of chunk len) ++ len ∷ []) ≡ pieces_of b chunk len
+  pub pieces_of-moved : (chunk : ℕ) → 1 ≤ step_of chunk len
+      → parts_from 0 (moved b len (step_of chunk len) ((len - 1) / step_of chunk len) ++ len ∷ []) ≡ pieces_of b chunk len
   pieces_of-moved chunk some = whole (moved b len (step_of chunk len) ((len - 1) / step_of chunk len)) (moved_rise (step_of chunk len) some)
 
-  each_part : (from : ℕ) (cuts : List ℕ) → from ≤ len → b from ≡ true → Rises from cuts → All (IsPiece b len) (parts_from from (cuts ++ len ∷ []))
+  each_part : (from : ℕ) (cuts : List ℕ) → from ≤ len → b from ≡ true → Rises from cuts
+      → All (IsPiece b len) (parts_from from (cuts ++ len ∷ []))
   each_part from [] le here r = elim (cases_eq len from) [
     | inl same ↦ subst (All (IsPiece b len)) (sym (parts_same from [] len (eq-eqb len from same))) (All-nil (IsPiece b len))
     | inr differ ↦ subst (All (IsPiece b len)) (sym (parts_other from [] len (ne_eqb len from differ)))
-        (All-cons (IsPiece b len) (from, len) [] (record { some = omega (arith, differ, le); inside = omega arith; starts = here; ends = end }) (All-nil (IsPiece b len)))
+        (All-cons (IsPiece b len) (from, len) []
+        (record { some = omega (arith, differ, le); inside = omega arith; starts = here; ends = end }) (All-nil (IsPiece b len)))
   ]
   each_part from (cut ∷ cuts) le here r = elim (cases_eq cut from) [
-    | inl same ↦ subst (All (IsPiece b len)) (sym (parts_same from (cuts ++ len ∷ []) cut (eq-eqb cut from same))) (each_part from cuts le here (subst (λ p. Rises p cuts) same r.3))
+    | inl same ↦ subst (All (IsPiece b len)) (sym (parts_same from (cuts ++ len ∷ []) cut (eq-eqb cut from same)))
+        (each_part from cuts le here (subst (λ p. Rises p cuts) same r.3))
     | inr differ ↦ subst (All (IsPiece b len)) (sym (parts_other from (cuts ++ len ∷ []) cut (ne_eqb cut from differ)))
-        (All-cons (IsPiece b len) (from, cut) (parts_from cut (cuts ++ len ∷ [])) (record { some = omega (arith, differ, r.0); inside = r.1; starts = here; ends = r.2 }) (each_part cut cuts r.1 r.2 r.3))
+        (All-cons (IsPiece b len) (from, cut) (parts_from cut (cuts ++ len ∷ []))
+        (record { some = omega (arith, differ, r.0); inside = r.1; starts = here; ends = r.2 }) (each_part cut cuts r.1 r.2 r.3))
   ]
 
 pub kind_starts : (kind : Boundary) (bytes : List ℕ) → boundary_of kind bytes 0 ≡ true
@@ -118,7 +132,8 @@ pub kind_ends : (kind : Boundary) (bytes : List ℕ) → boundary_of kind bytes 
 kind_ends Boundary.Word bytes = or_right (length bytes == 0) _ (or_left _ _ (eq-eqb (length bytes) (length bytes) refl))
 kind_ends Boundary.Line bytes = or_right _ (length bytes == length bytes) (eq-eqb (length bytes) (length bytes) refl)
 
-each_of_some : (kind : Boundary) (bytes : List ℕ) (chunk : ℕ) → 1 ≤ step_of chunk (length bytes) → All (IsPiece (boundary_of kind bytes) (length bytes)) (pieces_of (boundary_of kind bytes) chunk (length bytes))
+each_of_some : (kind : Boundary) (bytes : List ℕ) (chunk : ℕ) → 1 ≤ step_of chunk (length bytes)
+    → All (IsPiece (boundary_of kind bytes) (length bytes)) (pieces_of (boundary_of kind bytes) chunk (length bytes))
 each_of_some kind bytes chunk some =
     let b = boundary_of kind bytes in
     let len = length bytes in
@@ -130,12 +145,14 @@ each_of_some kind bytes chunk some =
     (rise_from b len end step 0 1 ((len - 1) / step) (λ q from to. omega arith) (omega (arith, most))))
 
 -- each piece of a text, whatever the chunk
-pub each_of : (kind : Boundary) (bytes : List ℕ) (chunk : ℕ) → All (IsPiece (boundary_of kind bytes) (length bytes)) (pieces_of (boundary_of kind bytes) chunk (length bytes))
+pub each_of : (kind : Boundary) (bytes : List ℕ) (chunk : ℕ)
+    → All (IsPiece (boundary_of kind bytes) (length bytes)) (pieces_of (boundary_of kind bytes) chunk (length bytes))
 each_of kind bytes chunk = elim (cases_lt 0 (length bytes)) [
   | inl some ↦ each_of_some kind bytes chunk (omega (arith, some))
   | inr none ↦
       let e : (length bytes == 0) ≡ true = eq-eqb (length bytes) 0 (omega (arith, none)) in
-      subst (All (IsPiece (boundary_of kind bytes) (length bytes))) (sym (no_piece (boundary_of kind bytes) chunk (length bytes) e)) (All-nil (IsPiece (boundary_of kind bytes) (length bytes)))
+      subst (All (IsPiece (boundary_of kind bytes) (length bytes))) (sym (no_piece (boundary_of kind bytes) chunk (length bytes) e))
+      (All-nil (IsPiece (boundary_of kind bytes) (length bytes)))
 ]
   where
     no_piece : (b : ℕ → Bool) (chunk size : ℕ) → (size == 0) ≡ true → pieces_of b chunk size ≡ []
@@ -162,11 +179,14 @@ module _ (bytes : List ℕ) where
       ∙ slice-slice from part.1 to c.1 c.2
 
   pub pieces_joined : (b : ℕ → Bool) (chunk : ℕ) → flat_map (λ part. slice part.0 part.1) (pieces_of b chunk (length bytes)) ≡ bytes
-  pieces_joined b chunk = slices 0 (pieces_of b chunk (length bytes)) (length bytes) (pieces_of-IsChain b chunk (length bytes)) ∙ take_all (length bytes - 0) bytes (omega arith)
+  pieces_joined b chunk = slices 0 (pieces_of b chunk (length bytes)) (length bytes) (pieces_of-IsChain b chunk (length bytes))
+      ∙ take_all (length bytes - 0) bytes (omega arith)
 
 -- the items of the parts, joined, where each item emits itself alone
 alone : (xs : List ℕ) → flat_map (λ x. x ∷ []) xs ≡ xs
 alone xs = flat_map_single (λ x. x) xs ∙ map-id xs
 
-pub items_joined : (items : List ℕ) (parts : List Stretch) → flat_map (task_emissions (λ x. x ∷ []) items) parts ≡ flat_map (λ x. x ∷ []) items → flat_map (λ part. items_in part items) parts ≡ items
+pub items_joined : (items : List ℕ) (parts : List Stretch)
+    → flat_map (task_emissions (λ x. x ∷ []) items) parts ≡ flat_map (λ x. x ∷ []) items
+    → flat_map (λ part. items_in part items) parts ≡ items
 items_joined items parts e = sym (λ i. flat_map (λ part. alone (items_in part items) i) parts) ∙ e ∙ alone items

@@ -1,5 +1,6 @@
 ghost use Rattle.std.specs.Prelude.{◌≡◌, ◌<◌, ◌≤◌, length, slice_index_or};
-ghost use Rattle.mr_defs.specs.Tasks.{step_of, spans_of};
+ghost use Rattle.mr_defs.specs.Limits.{input_limit};
+ghost use Rattle.mr_defs.specs.Tasks.{step_of, spans_of, most_tasks};
 
 use std::marker::Model;
 
@@ -28,17 +29,18 @@ pub struct Pieces {
 
 impl Model for Pieces {
     ghost use Rattle.std.specs.Prelude.{List, ℕ, ◌≤◌, length};
+    ghost use Rattle.mr_defs.specs.Tasks.{most_tasks};
 
     ghost Value = { List (ℕ × ℕ) };
 
     ghost view = { λ p. p.pieces.items };
 
-    ghost invariant = { λ p. length p.pieces.items ≤ 1048576 };
+    ghost invariant = { λ p. length p.pieces.items ≤ most_tasks };
 }
 
 impl Pieces {
     pub(crate) fn of(pieces: Vec<Piece>) -> Pieces
-        requires { length pieces.items ≤ 1048576 }
+        requires { length pieces.items ≤ most_tasks }
         ensures { result ≡ pieces.items }
     {
         Pieces { pieces }
@@ -47,7 +49,7 @@ impl Pieces {
     /// How many pieces there are, which is the number of tasks.
     pub fn len(&self) -> u32
         ensures len { result ≡ length self.now }
-        ensures few { result ≤ 1048576 }
+        ensures few { result ≤ most_tasks }
     {
         self.pieces.len() as u32
     }
@@ -87,19 +89,20 @@ pub struct Spans {
 
 impl Model for Spans {
     ghost use Rattle.std.specs.Prelude.{List, ℕ, ◌≤◌};
+    ghost use Rattle.mr_defs.specs.Limits.{input_limit};
     ghost use Rattle.mr_defs.specs.Tasks.{spans_of};
 
     ghost Value = { List (ℕ × ℕ) };
 
     ghost view = { λ s. spans_of s.chunk s.items };
 
-    ghost invariant = { λ s. (1 ≤ s.chunk) × (s.items ≤ 134217728) };
+    ghost invariant = { λ s. (1 ≤ s.chunk) × (s.items ≤ input_limit) };
 }
 
 impl Spans {
     pub(crate) fn of(items: u64, chunk: u32) -> Spans
         requires chunk { 1 ≤ chunk }
-        requires items { items ≤ 134217728 }
+        requires items { items ≤ input_limit }
         ensures { result ≡ spans_of chunk items }
     {
         Spans { items, chunk }
@@ -108,7 +111,7 @@ impl Spans {
     /// How many spans there are, which is the number of tasks.
     pub fn len(&self) -> u32
         ensures len { result ≡ length self.now }
-        ensures few { result ≤ 1048576 }
+        ensures few { result ≤ most_tasks }
     {
         self.items.div_ceil(step(self.items, self.chunk)) as u32
     }
@@ -129,7 +132,7 @@ impl Spans {
 
 /// How far apart the cuts stand: the chunk, or more where that would give more than 1048576 tasks.
 pub(crate) fn step(size: u64, chunk: u32) -> u64
-    requires { size ≤ 134217728 }
+    requires { size ≤ input_limit }
     ensures { result ≡ step_of chunk size }
 {
     size.div_ceil(1048576).max(u64::from(chunk))

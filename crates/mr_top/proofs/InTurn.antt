@@ -1,12 +1,13 @@
 -- The inputs that were read so far, and the stage of those that are left.
-use Rattle.std.proofs.Common.{◌≡◌, ℕ, ◌+◌, ◌<◌, ◌≤◌, List, [], ◌∷◌, ◌++◌, length, drop, get_or, Some, None, Ok, Err, refl, sym, ap, subst, ◌∙◌, arith}
+use Rattle.std.proofs.Common.{◌≡◌, ℕ, ◌+◌, ◌<◌, ◌≤◌, List, [], ◌∷◌, ◌++◌, length, drop, get_or, Some, None, Ok, Err, refl, sym, ap, subst}
+use Rattle.std.proofs.Common.{◌∙◌, arith}
 use Rattle.std.specs.declared.option.Option.{Option}
 use Rattle.std.proofs.lemmas.List.{drop_more, append_assoc, append-nil}
 use Rattle.std.proofs.lemmas.List.Elements.{All-append}
 use Rattle.std.specs.Prelude.{All, zero, suc}
 use Rattle.std.proofs.Math.ListN.{drop_of_length-le}
+use Rattle.mr_defs.specs.Limits.{input_limit}
 use Rattle.mr_jobs.specs.Ending.{Ended, passed}
-use Rattle.mr_jobs.specs.JobEnding.{input_limit}
 use Rattle.mr_top.specs.Stages.{Contents, ComesTo}
 use Rattle.mr_top.specs.RunEnding.{inputs_from, input_at}
 use Rattle.mr_top.proofs.Stages.{Carries}

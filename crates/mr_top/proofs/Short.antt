@@ -6,9 +6,9 @@ use Rattle.std.proofs.lemmas.Fmt.{length-decimal-le}
 use Rattle.std.proofs.lemmas.List.{length-append}
 use Rattle.rand_core.specs.Steps.{first_words}
 use Rattle.rand_xoshiro.specs.SplitMix64.{mix_u64}
+use Rattle.mr_defs.specs.Limits.{input_limit}
 use Rattle.mr_command.specs.Form.{words_most}
 use Rattle.mr_items.specs.Generator.{generated, word_of}
-use Rattle.mr_jobs.specs.JobEnding.{input_limit}
 
 below : (x : ℕ) → x % 5000 < 5000
 below x = omega arith

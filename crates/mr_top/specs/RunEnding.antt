@@ -1,7 +1,9 @@
 -- How a run ends, as a function of its words and of the contents by name.
-use Rattle.std.specs.Prelude.{ℕ, ◌+◌, ◌==◌, nat_lt, Bool, true, false, if◌then◌else◌, List, [], ◌∷◌, length, codes, Option, Some, None, Ok, Err}
+use Rattle.std.specs.Prelude.{ℕ, ◌+◌, ◌==◌, nat_lt, Bool, true, false, if◌then◌else◌, List, [], ◌∷◌, length, codes, Option, Some, None, Ok}
+use Rattle.std.specs.Prelude.{Err}
 use Rattle.std.specs.Option.{option_map_or}
 use Rattle.std.specs.declared.result.Result.{Result}
+use Rattle.mr_defs.specs.Limits.{input_limit}
 use Rattle.mr_base.specs.declared.status.Status.{Status}
 use Rattle.mr_base.specs.declared.status.Status.TheVariants as status
 use Rattle.mr_items.specs.FaultLines.{input_line, inputs_line}
@@ -15,10 +17,11 @@ use Rattle.mr_jobfile.specs.declared.fault.JobFault.{JobFault}
 use Rattle.mr_jobfile.specs.declared.fault.JobFault.TheVariants as fault
 use Rattle.mr_jobfile.specs.FaultText.{job_line}
 use Rattle.mr_jobfile.specs.JobOf.{job_of}
+use Rattle.mr_jobfile.specs.Ranges.{job_limit}
 use Rattle.mr_jobfile.specs.Values.{SeenJob}
 use Rattle.mr_jobs.specs.Generated.{generated_ending}
 use Rattle.mr_jobs.specs.Ending.{Ended, Ending, done, refused, passed}
-use Rattle.mr_jobs.specs.JobEnding.{job_ending, input_limit, inputs_wanted}
+use Rattle.mr_jobs.specs.JobEnding.{job_ending, inputs_wanted}
 use Rattle.mr_top.specs.Stages.{Contents, Stage, followed, usage, read_fault}
 
 -- what the words ask for
@@ -32,10 +35,6 @@ within limit bytes = if nat_lt limit (length bytes) then None else Some bytes
 -- the bytes of a name, none where they are more than the limit
 abbrev pub bytes_at : List ℕ → ℕ → Stage (Option (List ℕ))
 bytes_at name limit content = option_map_or (λ bytes. Ok (within limit bytes)) (content name) read_fault
-
--- the most bytes of a job file
-abbrev pub job_limit : ℕ
-job_limit = 65536
 
 -- the job that a reading gives, or the refusal of its fault
 abbrev pub judged : Result SeenJob JobFault → Ended SeenJob

@@ -13,8 +13,8 @@ abbrev pub Told : Option (List ℕ) → Option (List ℕ) → Option (List ℕ) 
 Told None old new before now = Keeps old new
 Told (Some line) old new before now = Says line old new before now
 
--- the output has the text and the error output was told the report; or the output has a proper front of the text where its count rose, and the
--- error output was told of that
+-- the output has the text and the error output was told the report; or the output has a proper front of the text where its count rose, and
+-- the error output was told of that
 abbrev pub Writes : Status → List ℕ → Option (List ℕ) → Option (List ℕ) → Option (List ℕ) → ℕ → ℕ → Option (List ℕ) → Option (List ℕ) → ℕ
     → ℕ → Type 0
 Writes status.Done text report old new before now told_old told_new told_before told_now =

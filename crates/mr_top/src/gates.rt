@@ -27,7 +27,8 @@ impl NotingGate {
         }
     }
 
-    /// What is noted of a task: the number of the call, from 1, and the worker that it came from, as one number. It is 0 where there was no call.
+    /// What is noted of a task: the number of the call, from 1, and the worker that it came from, as one number. It is 0 where there was no
+    /// call.
     pub fn note(&self, task: usize) -> u64 {
         if task < 4 {
             self.tasks[task].load(Ordering::SeqCst)

@@ -1,5 +1,5 @@
 ghost use Rattle.std.specs.Prelude.{◌≡◌, ◌≤◌, true, is_some, length, IfOk, IfErr, IfSome, Ok};
-ghost use Rattle.mr_jobs.specs.JobEnding.{input_limit};
+ghost use Rattle.mr_defs.specs.Limits.{input_limit};
 ghost use Rattle.mr_top.specs.Halts.{Halts, IsPastJob};
 ghost use Rattle.mr_top.specs.RunEnding.{bytes_at};
 ghost use Rattle.mr_top.specs.Stages.{ComesTo};

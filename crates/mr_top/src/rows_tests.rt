@@ -1,7 +1,8 @@
 //! What jobs come to on small inputs, as tables of text.
 //!
-//! A line that begins with `#` has the job file for the lines below it. Any other line is a case: the inputs, between `&` where there are two, the exit code, and what
-//! the output holds, or the error output where the run is refused. A `;` stands for a line's end, and `~` for a byte 13.
+//! A line that begins with `#` has the job file for the lines below it. Any other line is a case: the inputs, between `&` where there are
+//! two, the exit code, and what the output holds, or the error output where the run is refused. A `;` stands for a line's end, and `~` for
+//! a byte 13.
 use crate::gates::NotingGate;
 use crate::tests::{ran, ran_on};
 use mr_base::{Memory, Status};

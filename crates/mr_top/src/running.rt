@@ -51,10 +51,10 @@ fn judged<T: Threads + Sync, H: Shelf, G: Gate + Sync>(
 
 /// Runs the command that the words ask for, of which the first is the program's name and means nothing.
 ///
-/// The words are read, then the job file, with at most 65536 bytes; in the mode `check` that is all. Then the inputs are counted and read whole in
-/// their order, each with at most 134217728 bytes, and the job runs on them; in the mode `generate` it runs on the text that is generated, whose
-/// summary is what is written. The run ends by the first refusal that is met, whose line is written to `err`. The output text and the report are
-/// built before the first write to `out`; the report is written to `err` once the text is out.
+/// The words are read, then the job file, with at most 65536 bytes; in the mode `check` that is all. Then the inputs are counted and read
+/// whole in their order, each with at most 134217728 bytes, and the job runs on them; in the mode `generate` it runs on the text that is
+/// generated, whose summary is what is written. The run ends by the first refusal that is met, whose line is written to `err`. The output
+/// text and the report are built before the first write to `out`; the report is written to `err` once the text is out.
 ///
 /// Contents are the shelf's, where it tells them; `run_ending` is the definition. What `err` does changes no status.
 pub fn run<R: Threads + Sync, H: Shelf, O: Sink, E: Sink, G: Gate + Sync>(

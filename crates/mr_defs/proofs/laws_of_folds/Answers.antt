@@ -1,5 +1,7 @@
 use Rattle.mr_defs.specs.Folded.{min_folded, max_folded, sum_folded, count_folded, limit}
-use Rattle.mr_defs.proofs.FoldLaws.{sum_up_to_free, min_folded_free, max_folded_free, one_folded_free, count_folded_free, and_folded_free, or_folded_free, xor_folded_free, both_folded_free, vecsum_folded_free, list_folded_free, distinct_folded_free, median_folded_free}
+use Rattle.mr_defs.proofs.FoldLaws.{sum_up_to_free, min_folded_free, max_folded_free, one_folded_free, count_folded_free, and_folded_free}
+use Rattle.mr_defs.proofs.FoldLaws.{or_folded_free, xor_folded_free, both_folded_free, vecsum_folded_free, list_folded_free}
+use Rattle.mr_defs.proofs.FoldLaws.{distinct_folded_free, median_folded_free}
 use Rattle.mr_defs.proofs.laws_of_folds.Goals as goal
 
 pub returns-clause-sum : goal.returns-clause-sum

@@ -13,6 +13,12 @@ fetch_add-requires c =
       c.requires.seat.0,
       (let a = c.requires.queue.0 in let b = c.requires.queue.1 in omega (arith, a, b)),
       λ s held homes at fits.
-          let r = claim_ok (total_of ranges) (length ranges) queue me.id me.me.0 c.requires.queue.0 c.requires.weight c.requires.open s.words s.views held at in
-          (r.0, keeps, tt, r.1, (subst (λ q. Claimed q me.me.0 (slice_index s.words (queue * 8)) r.0) (sym (queue_of-word_of queue)) r.2, refl)),
+          let r = claim_ok (total_of ranges)
+          (length ranges) queue me.id me.me.0 c.requires.queue.0 c.requires.weight c.requires.open s.words s.views held at in (
+            r.0,
+            keeps,
+            tt,
+            r.1,
+            (subst (λ q. Claimed q me.me.0 (slice_index s.words (queue * 8)) r.0) (sym (queue_of-word_of queue)) r.2, refl),
+          ),
     )

@@ -9,5 +9,6 @@ split_seat-requires c =
     let me = c.args.seat.now in (
       c.requires.seat.0,
       c.requires.seat.2,
-      λ s held at. cut_ok (total_of ranges) (length ranges) me.id me.me.0 c.requires.weight c.requires.unused.0 c.requires.unused.1 s.words s.views held at,
+      λ s held at. cut_ok (total_of ranges)
+          (length ranges) me.id me.me.0 c.requires.weight c.requires.unused.0 c.requires.unused.1 s.words s.views held at,
     )

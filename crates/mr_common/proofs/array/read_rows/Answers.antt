@@ -13,7 +13,8 @@ pub loop-k-preserved : goal.loop-k-preserved
 loop-k-preserved c =
     let words = slots_items c.args.closed.now.words in
     let i = c.loop-k.invariant in
-    let at : slice_index (slots_items c.args.closed.now.words) c.loop-k.k ≡ c.word-word.result = found_at (slots_items c.args.closed.now.words) c.loop-k.k c.word-word.result c.word-word.ensures in
+    let at : slice_index (slots_items c.args.closed.now.words) c.loop-k.k ≡ c.word-word.result =
+    found_at (slots_items c.args.closed.now.words) c.loop-k.k c.word-word.result c.word-word.ensures in
     elim c.if-word.branch [
       | then-word w ↦ (
           let b = w.rows-is in
@@ -27,7 +28,8 @@ loop-k-preserved c =
           let wide : to_z w128 (of_z w128 w.from-value.result) ≡ w.from-value.result = grind (arith, to_z-of_z, t') in
           let value = o ∙ ap (λ v. v ∷ []) (wide ∙ f ∙ short ∙ e ∙ ap (cast_signed w64) (sym at)) in
           let pair : ℕ × ℤ = (c.loop-k.k, cast_signed w64 (slice_index words c.loop-k.k)) in
-          let more = ap (map row_of) (pairs_one words c.loop-k.k (λ x. w.if-word.true (sym at ∙ x))) ∙ map-append row_of (pairs_to words c.loop-k.k) (pair ∷ []) in
+          let more = ap (map row_of) (pairs_one words c.loop-k.k (λ x. w.if-word.true (sym at ∙ x)))
+          ∙ map-append row_of (pairs_to words c.loop-k.k) (pair ∷ []) in
           let l = i.1 in
           let k = d.len in
           let m = d.capacity in

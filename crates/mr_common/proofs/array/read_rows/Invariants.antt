@@ -4,4 +4,5 @@ use Rattle.mr_common.specs.Passes.{pairs_to, row_of}
 use Rattle.mr_common.proofs.array.read_rows.Given as goal
 
 abbrev pub invariant-loop-k : goal.invariant-loop-k
-invariant-loop-k l = (l.rows.items ≡ map row_of (pairs_to (slots_items l.closed.words) l.k)) × (vec_len l.rows ≤ l.k) × (l.count ≤ vec_capacity l.rows)
+invariant-loop-k l =
+    (l.rows.items ≡ map row_of (pairs_to (slots_items l.closed.words) l.k)) × (vec_len l.rows ≤ l.k) × (l.count ≤ vec_capacity l.rows)

@@ -10,6 +10,7 @@ compare_exchange-requires c =
       c.requires.seat.0,
       c.requires.key.0,
       λ s held homes at fits.
-          let r = exchange_ok size.words size.passes c.args.key c.args.value me.id me.me.0 c.requires.key.1 c.requires.value c.requires.seat.2 s.words s.views held at in
+          let r = exchange_ok size.words size.passes c.args.key c.args.value me.id me.me.0 c.requires.key.1 c.requires.value
+          c.requires.seat.2 s.words s.views held at in
           (r.0, keeps, tt, r.1, (r.2, refl)),
     )

@@ -9,5 +9,6 @@ join_seat-requires c =
       c.requires.other.0,
       c.requires.other.1,
       c.requires.seat.2,
-      λ s held at ne at'. join_ok size.words size.passes me.id me.me.0 c.args.other.id c.args.other.me.0 c.requires.seat.3 s.words s.views held at ne at',
+      λ s held at ne at'. join_ok size.words size.passes me.id me.me.0 c.args.other.id c.args.other.me.0 c.requires.seat.3 s.words s.views
+          held at ne at',
     )

@@ -11,4 +11,5 @@ push_as-requires-clause-pushes g c =
     (let p = ap (λ (u : About). u.passes) is in let r = c.requires.range.2 in omega (arith, p, r))
 
 pub push_as-requires-in-loop-number-clause-pushes : goal.push_as-requires-in-loop-number-clause-pushes
-push_as-requires-in-loop-number-clause-pushes g c = puts_at _ _ c.loop-number.number c.args.start c.args.end c.args.passes c.loop-number.invariant.1 c.requires.range.2 c.loop-number-test.true
+push_as-requires-in-loop-number-clause-pushes g c = puts_at _ _ c.loop-number.number c.args.start c.args.end c.args.passes
+    c.loop-number.invariant.1 c.requires.range.2 c.loop-number-test.true

@@ -6,4 +6,5 @@ pub steal_as-requires-clause-takes : goal.steal_as-requires-clause-takes
 steal_as-requires-clause-takes c = takes_ok _ _ c.requires.may.0 (inl (c.requires.may.1, c.requires.may.2))
 
 pub steal_as-requires-clause-empty : goal.steal_as-requires-clause-empty
-steal_as-requires-clause-empty c = few_never _ _ c.requires.may.0 (c.requires.may.1, c.requires.may.2) _ (let f = c.requires.deque.1 in grind (arith, f))
+steal_as-requires-clause-empty c =
+    few_never _ _ c.requires.may.0 (c.requires.may.1, c.requires.may.2) _ (let f = c.requires.deque.1 in grind (arith, f))

@@ -11,4 +11,5 @@ returns c =
     let i = c.loop-q.invariant in
     let none = c.loop-q-test.false in
     once_permuted (total_of c.args.deques.now.ranges) (flat_map given_to c.args.all.now) (λ x.
-    sym (i.2 x) ∙ all_done c.args.deques.now c.loop-q.all c.args.deques.now.few.0 (subst (λ k. Joined c.args.deques.now k c.loop-q.all) (omega (arith, none)) i.0) x)
+    sym (i.2 x) ∙ all_done c.args.deques.now c.loop-q.all c.args.deques.now.few.0
+    (subst (λ k. Joined c.args.deques.now k c.loop-q.all) (omega (arith, none)) i.0) x)

@@ -25,10 +25,22 @@ loop-q-preserved c =
     let b = c.push-in-loop-q.ensures in
     let even = c.range-start.ensures.even in
     let count = i.0 in
-    let v : worker_view c.in_ok-owner.owner ≡ view (about (start_of tasks queues q) (start_of tasks queues (q + 1)) queues) (start_of tasks queues (q + 1) + queues) queues [] true =
+    let v : worker_view c.in_ok-owner.owner
+    ≡ view (about (start_of tasks queues q) (start_of tasks queues (q + 1)) queues)
+    (start_of tasks queues (q + 1) + queues) queues [] true =
     o.1 ∙ (λ k. view (about (even.0 k) (even.1 k) (count k)) (even.1 k + count k) (count k) [] true) in
-    let new : IsFresh tasks queues q pass × (worker_deque pass.own ≡ stealer_deque thief) =
-    ((made.1, c.in_ok-unused.ensures.unmarked.0, made.3, ap worker_flavor made.0 ∙ o.0, made.2, ap worker_view made.0 ∙ v, c.in_ok-unused.ensures.unmarked.1), ap worker_deque made.0 ∙ sym s.0) in
+    let new : IsFresh tasks queues q pass × (worker_deque pass.own ≡ stealer_deque thief) = (
+      (
+        made.1,
+        c.in_ok-unused.ensures.unmarked.0,
+        made.3,
+        ap worker_flavor made.0 ∙ o.0,
+        made.2,
+        ap worker_view made.0 ∙ v,
+        c.in_ok-unused.ensures.unmarked.1,
+      ),
+      ap worker_deque made.0 ∙ sym s.0,
+    ) in
     let room = i.1 in
     let room' = i.2 in
     let spare = a.spare in
@@ -38,10 +50,14 @@ loop-q-preserved c =
       omega (arith, room', spare'),
       ap length a.items ∙ length-push thieves thief ∙ ap (λ n. n + 1) i.3,
       ap length b.items ∙ length-push passes pass ∙ ap (λ n. n + 1) i.4,
-      (λ k t lt. ap (λ l. stealer_flavor (slice_index_or l k t)) a.items ∙ each_push (λ k x. stealer_flavor x ≡ 0) q thieves thief i.3 i.5 (s.1 ∙ o.0) k t lt),
-      (λ k e t lt. subst (λ l. IsFresh tasks queues k (slice_index_or l k e) × (worker_deque (slice_index_or l k e).own ≡ stealer_deque (slice_index_or c.push.new.self.items k t))) (sym b.items)
-          (subst (λ l. IsFresh tasks queues k (slice_index_or (passes ++ pass ∷ []) k e) × (worker_deque (slice_index_or (passes ++ pass ∷ []) k e).own ≡ stealer_deque (slice_index_or l k t))) (sym a.items)
-          (push_both (λ j x y. IsFresh tasks queues j x × (worker_deque x.own ≡ stealer_deque y)) passes thieves pass thief q i.4 i.3 i.6 new k e t lt))),
+      (λ k t lt. ap (λ l. stealer_flavor (slice_index_or l k t)) a.items
+          ∙ each_push (λ k x. stealer_flavor x ≡ 0) q thieves thief i.3 i.5 (s.1 ∙ o.0) k t lt),
+      (λ k e t lt. subst (λ l. IsFresh tasks queues k (slice_index_or l k e)
+          × (worker_deque (slice_index_or l k e).own ≡ stealer_deque (slice_index_or c.push.new.self.items k t))) (sym b.items)
+          (subst (λ l. IsFresh tasks queues k (slice_index_or (passes ++ pass ∷ []) k e)
+          × (worker_deque (slice_index_or (passes ++ pass ∷ []) k e).own ≡ stealer_deque (slice_index_or l k t))) (sym a.items)
+          (push_both (λ j x y. IsFresh tasks queues j x × (worker_deque x.own ≡ stealer_deque y)) passes thieves pass thief q i.4 i.3 i.6
+          new k e t lt))),
     )
 
 pub returns : goal.returns

@@ -9,4 +9,6 @@ abbrev pub invariant-loop-q : goal.invariant-loop-q
 invariant-loop-q l = (l.queues ≡ length l.ranges) × (l.queues ≤ l.thieves.spare + l.q) × (l.queues ≤ l.passes.spare + l.q)
     × (length l.thieves.items ≡ l.q) × (length l.passes.items ≡ l.q)
     × ((i : ℕ) (t : _) → i < l.q → stealer_flavor (slice_index_or l.thieves.items i t) ≡ 0)
-    × ((i : ℕ) (e : DequePass) (t : _) → i < l.q → IsFresh (total_of l.ranges) (length l.ranges) i (slice_index_or l.passes.items i e) × (worker_deque (slice_index_or l.passes.items i e).own ≡ stealer_deque (slice_index_or l.thieves.items i t)))
+    × ((i : ℕ) (e : DequePass) (t : _) → i < l.q
+    → IsFresh (total_of l.ranges) (length l.ranges) i (slice_index_or l.passes.items i e)
+    × (worker_deque (slice_index_or l.passes.items i e).own ≡ stealer_deque (slice_index_or l.thieves.items i t)))

@@ -8,4 +8,5 @@ loop-q-preserved c =
     let no = c.loop-w-test.false in
     let end = c.loop-w.auto.w-end in
     let lt = c.loop-q-test.true in
-    next_sharing c.args.deques.now c.loop-q.q c.loop-w.w c.loop-w.all c.loop-w.invariant (omega (arith, no, end, count)) (omega (arith, lt, count))
+    next_sharing c.args.deques.now c.loop-q.q c.loop-w.w c.loop-w.all c.loop-w.invariant (omega (arith, no, end, count))
+    (omega (arith, lt, count))

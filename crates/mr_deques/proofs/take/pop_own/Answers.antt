@@ -10,8 +10,12 @@ returns-then-x-end-clause-same c =
     let r = c.requires.pass in
     let o : DequePass = record c.args.pass.now { own = c.pop.new.owner } in
     let end = c.range-end.ensures.even.1 in
-    let lt = c.if-x-end.true in
-    (own_task c.args.deques.now c.args.pass.now r.0 r.1 o c.in-Some.x c.requires.unmarked c.pop.ensures.same c.in-Some.ensures.took (omega (arith, end, lt)), refl, r.1)
+    let lt = c.if-x-end.true in (
+      own_task c.args.deques.now c.args.pass.now r.0 r.1 o c.in-Some.x c.requires.unmarked c.pop.ensures.same c.in-Some.ensures.took
+          (omega (arith, end, lt)),
+      refl,
+      r.1,
+    )
 
 pub returns-then-x-end-clause-some : goal.returns-then-x-end-clause-some
 returns-then-x-end-clause-some c =
@@ -20,7 +24,8 @@ returns-then-x-end-clause-some c =
     let end = c.range-end.ensures.even.1 in
     let lt = c.if-x-end.true in (
       below_total c.args.deques.now c.args.pass.now.number c.in-Some.x r.0.number (omega (arith, end, lt)),
-      permuted _ _ (λ y. sym (own_given c.args.deques.now c.args.pass.now r.0 r.1 o c.in-Some.x c.requires.unmarked c.pop.ensures.same c.in-Some.ensures.took y (omega (arith, end, lt)))),
+      permuted _ _ (λ y. sym (own_given c.args.deques.now c.args.pass.now r.0 r.1 o c.in-Some.x c.requires.unmarked c.pop.ensures.same
+          c.in-Some.ensures.took y (omega (arith, end, lt)))),
     )
 
 pub returns-clause-same : goal.returns-clause-same
@@ -28,8 +33,12 @@ returns-clause-same c =
     let r = c.requires.pass in
     let o : DequePass = record c.args.pass.now { own = c.pop.new.owner } in
     let end = c.range-end.ensures.even.1 in
-    let no = c.if-x-end.false in
-    (own_mark c.args.deques.now c.args.pass.now r.0 r.1 o c.in-Some.x c.requires.unmarked c.pop.ensures.same c.in-Some.ensures.took (omega (arith, end, no)) c.args.deques.now.few.1, refl, r.1)
+    let no = c.if-x-end.false in (
+      own_mark c.args.deques.now c.args.pass.now r.0 r.1 o c.in-Some.x c.requires.unmarked c.pop.ensures.same c.in-Some.ensures.took
+          (omega (arith, end, no)) c.args.deques.now.few.1,
+      refl,
+      r.1,
+    )
 
 pub returns-clause-none : goal.returns-clause-none
 returns-clause-none c =
@@ -40,6 +49,7 @@ returns-clause-none c =
     let w = r.0.holds.wide in
     let l = r.0.number in
     let s = c.args.deques.now.few in (
-      own_same c.args.deques.now c.args.pass.now r.0 r.1 o c.in-Some.x c.requires.unmarked c.pop.ensures.same c.in-Some.ensures.took (omega (arith, end, no)),
+      own_same c.args.deques.now c.args.pass.now r.0 r.1 o c.in-Some.x c.requires.unmarked c.pop.ensures.same c.in-Some.ensures.took
+          (omega (arith, end, no)),
       get_or-set_same c.args.pass.now.marked c.args.pass.now.number true false (omega (arith, w, l, s)),
     )

@@ -20,12 +20,18 @@ loop-entry-preserved g c =
     let index = c.loop-entry.index.items in
     let kept = c.loop-entry.invariant in
     let long : length index ≡ c.args.size = sym c.loop-entry.index.ok.0 ∙ kept.size in
-    let free : IsFree (length index) c.args.shift index c.code-code.result c.free_slot-free.result = subst (λ l. IsFree (length l) c.args.shift l c.code-code.result c.free_slot-free.result) c.deref.ensures.value c.free_slot-free.ensures in
+    let free : IsFree (length index) c.args.shift index c.code-code.result c.free_slot-free.result = subst
+    (λ l. IsFree (length l) c.args.shift l c.code-code.result c.free_slot-free.result) c.deref.ensures.value c.free_slot-free.ensures in
     record {
       size = kept.size;
       at = ap (λ n. n + 1) kept.at;
-      indexed = subst (λ l. Indexed c.args.size c.args.shift (set index c.free_slot-free.result c.word_at.result) (map g.K.Key.code_of (keys_of l))) (sym (entries_more entries c.loop-entry.entry-index c.entry-item.result c.loop-entry-test.true c.entry-item.is))
-          (indexed_push g.K.Key.code_of c.args.size c.args.shift first c.entry-item.result index c.code-code.result c.free_slot-free.result c.word_at.result kept.indexed c.code-code.ensures
+      indexed = subst (λ l. Indexed c.args.size c.args.shift (set index c.free_slot-free.result c.word_at.result)
+          (map g.K.Key.code_of (keys_of l)))
+          (sym (entries_more entries c.loop-entry.entry-index c.entry-item.result c.loop-entry-test.true c.entry-item.is))
+          (indexed_push g.K.Key.code_of c.args.size c.args.shift first c.entry-item.result index c.code-code.result c.free_slot-free.result
+          c.word_at.result kept.indexed c.code-code.ensures
           (subst (λ n. IsFree n c.args.shift index c.code-code.result c.free_slot-free.result) long free)
-          (c.word_at.ensures c.code-code.result c.tag_at.ensures.tag ∙ ap (word_of c.args.size c.code-code.result) (kept.at ∙ sym (length-take-le c.loop-entry.entry-index entries (omega (arith, c.loop-entry-test.true))))));
+          (c.word_at.ensures c.code-code.result c.tag_at.ensures.tag
+          ∙ ap (word_of c.args.size c.code-code.result)
+          (kept.at ∙ sym (length-take-le c.loop-entry.entry-index entries (omega (arith, c.loop-entry-test.true))))));
     }

@@ -4,4 +4,5 @@ use Rattle.mr_jobfile.proofs.forms.are_patterns.Goals as goal
 
 pub returns-in-Some : goal.returns-in-Some
 returns-in-Some c =
-    rw (← c.in-Some.ensures, texts_pass (is_within 1 16) is_pattern c.in-Some.items.now.items, ← c.deref.ensures.value) c.has_patterns.ensures
+    rw (← c.in-Some.ensures, texts_pass (is_within 1 16) is_pattern c.in-Some.items.now.items, ← c.deref.ensures.value)
+    c.has_patterns.ensures

@@ -5,4 +5,5 @@ use Rattle.mr_jobfile.proofs.pairing.keys_in.Given as goal
 
 abbrev pub invariant-loop-row : goal.invariant-loop-row
 invariant-loop-row l =
-    keys_in (map seen_row l.rows) l.values l.job l.container l.combiner ≡ keys_in (map seen_row (drop l.row-index l.rows)) l.values l.job l.container l.combiner
+    keys_in (map seen_row l.rows) l.values l.job l.container l.combiner
+    ≡ keys_in (map seen_row (drop l.row-index l.rows)) l.values l.job l.container l.combiner

@@ -8,10 +8,12 @@ pub returns-then-bytes-gt-JOB_LIMIT-clause-fault : goal.returns-then-bytes-gt-JO
 returns-then-bytes-gt-JOB_LIMIT-clause-fault c = λ f e. let long = too_long c.args.bytes.now c.if-bytes-gt-JOB_LIMIT.true in cc
 
 pub returns-in-Ok-clause-job : goal.returns-in-Ok-clause-job
-returns-in-Ok-clause-job c = rw (of_table c.args.bytes.now (table_view c.in-Ok.table) c.if-bytes-gt-JOB_LIMIT.false c.in-Ok.ensures.ok) c.judged.ensures.job
+returns-in-Ok-clause-job c =
+    rw (of_table c.args.bytes.now (table_view c.in-Ok.table) c.if-bytes-gt-JOB_LIMIT.false c.in-Ok.ensures.ok) c.judged.ensures.job
 
 pub returns-in-Ok-clause-fault : goal.returns-in-Ok-clause-fault
-returns-in-Ok-clause-fault c = λ f e. of_table c.args.bytes.now (table_view c.in-Ok.table) c.if-bytes-gt-JOB_LIMIT.false c.in-Ok.ensures.ok ∙ c.judged.ensures.fault f e
+returns-in-Ok-clause-fault c = λ f e. of_table c.args.bytes.now (table_view c.in-Ok.table) c.if-bytes-gt-JOB_LIMIT.false c.in-Ok.ensures.ok
+    ∙ c.judged.ensures.fault f e
 
 pub returns-in-Err-clause-fault : goal.returns-in-Err-clause-fault
 returns-in-Err-clause-fault c = λ f e.

@@ -7,21 +7,32 @@ use Rattle.mr_kernels.proofs.edges.note_bits.Goals as goal
 
 pub bounds-edges-at : goal.bounds-edges-at
 bounds-edges-at c =
-    room c.args.base c.loop-rest.rest (search rules) c.loop-rest.at c.args.from c.args.mask (length c.loop-rest.edges) (omega (arith, c.loop-rest-test.true)) (search rules) c.loop-rest.invariant.number (omega (arith, c.loop-rest.invariant.same, c.requires.room))
+    room c.args.base c.loop-rest.rest (search rules) c.loop-rest.at c.args.from c.args.mask (length c.loop-rest.edges)
+    (omega (arith, c.loop-rest-test.true)) (search rules) c.loop-rest.invariant.number
+    (omega (arith, c.loop-rest.invariant.same, c.requires.room))
 
 pub offset_bounds-edges-at : goal.offset_bounds-edges-at
 offset_bounds-edges-at c =
-    let below : c.loop-rest.at < length c.loop-rest.edges = room c.args.base c.loop-rest.rest (search rules) c.loop-rest.at c.args.from c.args.mask (length c.loop-rest.edges) (omega (arith, c.loop-rest-test.true)) (search rules) c.loop-rest.invariant.number (omega (arith, c.loop-rest.invariant.same, c.requires.room)) in
+    let below : c.loop-rest.at
+    < length c.loop-rest.edges = room c.args.base c.loop-rest.rest (search rules) c.loop-rest.at c.args.from c.args.mask
+    (length c.loop-rest.edges) (omega (arith, c.loop-rest-test.true)) (search rules) c.loop-rest.invariant.number
+    (omega (arith, c.loop-rest.invariant.same, c.requires.room)) in
     search rules
 
 pub overflow_add-at : goal.overflow_add-at
 overflow_add-at c =
-    let below : c.loop-rest.at < length c.loop-rest.edges = room c.args.base c.loop-rest.rest (search rules) c.loop-rest.at c.args.from c.args.mask (length c.loop-rest.edges) (omega (arith, c.loop-rest-test.true)) (search rules) c.loop-rest.invariant.number (omega (arith, c.loop-rest.invariant.same, c.requires.room)) in
+    let below : c.loop-rest.at
+    < length c.loop-rest.edges = room c.args.base c.loop-rest.rest (search rules) c.loop-rest.at c.args.from c.args.mask
+    (length c.loop-rest.edges) (omega (arith, c.loop-rest-test.true)) (search rules) c.loop-rest.invariant.number
+    (omega (arith, c.loop-rest.invariant.same, c.requires.room)) in
     search rules
 
 pub loop-rest-preserved : goal.loop-rest-preserved
 loop-rest-preserved c =
-    let below : c.loop-rest.at < length c.loop-rest.edges = room c.args.base c.loop-rest.rest (search rules) c.loop-rest.at c.args.from c.args.mask (length c.loop-rest.edges) (omega (arith, c.loop-rest-test.true)) (search rules) c.loop-rest.invariant.number (omega (arith, c.loop-rest.invariant.same, c.requires.room)) in
+    let below : c.loop-rest.at
+    < length c.loop-rest.edges = room c.args.base c.loop-rest.rest (search rules) c.loop-rest.at c.args.from c.args.mask
+    (length c.loop-rest.edges) (omega (arith, c.loop-rest-test.true)) (search rules) c.loop-rest.invariant.number
+    (omega (arith, c.loop-rest.invariant.same, c.requires.room)) in
     let rest = c.loop-rest.rest in
     let first = lowest_first c.args.base rest (search rules) (omega (arith, c.loop-rest-test.true)) in
     let later = set_places c.args.base (bits 64 (bit_and rest (rest - 1))) in
@@ -42,4 +53,5 @@ returns-clause-number c =
 pub returns-clause-places : goal.returns-clause-places
 returns-clause-places c =
     let taken = take c.loop-rest.at c.loop-rest.edges in
-    sym (append-nil taken) ∙ ap (λ es. taken ++ es) (sym (none c.args.base c.loop-rest.rest (search rules) (omega (arith, c.loop-rest-test.false)))) ∙ c.loop-rest.invariant.places
+    sym (append-nil taken) ∙ ap (λ es. taken ++ es)
+    (sym (none c.args.base c.loop-rest.rest (search rules) (omega (arith, c.loop-rest-test.false)))) ∙ c.loop-rest.invariant.places

@@ -11,7 +11,8 @@ invariant-loop-at l = record {
   same : length l.edges ≡ length l.initial.edges;
   few : l.count ≤ l.at - l.from;
   bit : l.before ≤ 1;
-  so_far : take l.count l.edges ++ edges_from (l.before == 1) (l.at - l.from) (map (is_target l.target) (slice_range l.bytes l.at l.to)) ≡ edges_from false 0 (map (is_target l.target) (slice_range l.bytes l.from l.to));
+  so_far : take l.count l.edges ++ edges_from (l.before == 1) (l.at - l.from) (map (is_target l.target) (slice_range l.bytes l.at l.to))
+      ≡ edges_from false 0 (map (is_target l.target) (slice_range l.bytes l.from l.to));
 }
 
 abbrev pub decreases-loop-at : goal.decreases-loop-at

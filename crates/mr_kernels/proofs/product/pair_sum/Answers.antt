@@ -10,5 +10,11 @@ returns c =
     let a = c.args.a.now in
     let b = c.args.b.now in
     let most : length a * (c.largest-left.result * c.largest-right.result) ≤ limit = search rules in
-    let size : magnitude (products a b) ≤ limit = omega (arith, most, magnitude_bound a b c.requires.lengths c.largest-left.result c.largest-right.result c.largest-left.ensures.bound c.largest-right.ensures.bound) in
+    let size : magnitude (products a b)
+    ≤ limit = omega (
+      arith,
+      most,
+      magnitude_bound a b c.requires.lengths c.largest-left.result c.largest-right.result c.largest-left.ensures.bound
+          c.largest-right.ensures.bound,
+    ) in
     ap Some (to_z-of_z w64 c.plain_sum.result (search rules) ∙ c.plain_sum.ensures) ∙ pair_sum-within a b c.requires.lengths size

@@ -8,12 +8,15 @@ use Rattle.mr_kernels.proofs.product.plain_sum.Goals as goal
 -- the next product is within its bound, and the sum with it within the limit
 product_within : (c : goal.After-product_at-sum) → nat_abs c.product_at-sum.result ≤ c.args.left * c.args.right
 product_within c =
-    let bound = product_bound c.args.a.now c.args.b.now c.requires.lengths c.args.left c.args.right c.requires.left c.requires.right c.loop-i.i (omega arith) in
+    let bound = product_bound c.args.a.now c.args.b.now c.requires.lengths c.args.left c.args.right c.requires.left c.requires.right
+    c.loop-i.i (omega arith) in
     omega (arith, ap nat_abs c.product_at-sum.ensures, bound)
 
 sum_within : (c : goal.After-product_at-sum) → nat_abs (to_z w64 c.loop-i.sum-bits) + nat_abs c.product_at-sum.result ≤ limit
 sum_within c =
-    let most : (c.loop-i.i + 1) * (c.args.left * c.args.right) ≤ length c.args.a.now * (c.args.left * c.args.right) = mul-le (c.loop-i.i + 1) (c.args.left * c.args.right) (length c.args.a.now) (c.args.left * c.args.right) (omega arith) (omega arith) in
+    let most : (c.loop-i.i + 1) * (c.args.left * c.args.right)
+    ≤ length c.args.a.now * (c.args.left * c.args.right) = mul-le (c.loop-i.i + 1) (c.args.left * c.args.right) (length c.args.a.now)
+    (c.args.left * c.args.right) (omega arith) (omega arith) in
     omega (arith, most, product_within c, c.loop-i.invariant.few, c.requires.bound)
 
 pub overflow_add-sum : goal.overflow_add-sum
@@ -23,8 +26,10 @@ pub loop-i-preserved : goal.loop-i-preserved
 loop-i-preserved c =
     let next = added (to_z w64 c.loop-i.sum-bits) c.product_at-sum.result (sum_within c) in
     record {
-      few = omega (arith, ap nat_abs next, abs_add (to_z w64 c.loop-i.sum-bits) c.product_at-sum.result, product_within c, c.loop-i.invariant.few);
-      so_far = next ∙ ap (λ z. z +ℤ c.product_at-sum.result) c.loop-i.invariant.so_far ∙ ap (λ z. total (take c.loop-i.i (products c.args.a.now c.args.b.now)) +ℤ z) c.product_at-sum.ensures
+      few = omega
+          (arith, ap nat_abs next, abs_add (to_z w64 c.loop-i.sum-bits) c.product_at-sum.result, product_within c, c.loop-i.invariant.few);
+      so_far = next ∙ ap (λ z. z +ℤ c.product_at-sum.result) c.loop-i.invariant.so_far
+          ∙ ap (λ z. total (take c.loop-i.i (products c.args.a.now c.args.b.now)) +ℤ z) c.product_at-sum.ensures
           ∙ sym (total_more c.args.a.now c.args.b.now c.requires.lengths c.loop-i.i (omega arith));
     }
 

@@ -16,19 +16,25 @@ loop-bytes-preserved g c = record {
   buf = grind (arith, common_steps);
   read = λ content told.
       let front : IsFront c.loop-bytes.bytes.items content = c.loop-bytes.invariant.read content told in
-      let here : IsTold (g.H.Shelf.contents c.loop-bytes.shelf) (g.H.Shelf.started c.loop-bytes.shelf) content = rw (c.loop-bytes.invariant.kept, c.loop-bytes.invariant.name (is_told_by _ _ _ told)) told in
-      let gives : Gives content (length c.loop-bytes.bytes.items) c.in-Bytes.n c.read.new.buf = rw (← c.loop-bytes.invariant.place) (c.in-Bytes.ensures.bytes content here) in
-      let more : c.extend_from_slice.new.self.items ≡ c.loop-bytes.bytes.items ++ take c.in-Bytes.n c.read.new.buf = grind (arith, common_steps) in
+      let here : IsTold (g.H.Shelf.contents c.loop-bytes.shelf) (g.H.Shelf.started c.loop-bytes.shelf) content =
+      rw (c.loop-bytes.invariant.kept, c.loop-bytes.invariant.name (is_told_by _ _ _ told)) told in
+      let gives : Gives content (length c.loop-bytes.bytes.items) c.in-Bytes.n c.read.new.buf =
+      rw (← c.loop-bytes.invariant.place) (c.in-Bytes.ensures.bytes content here) in
+      let more : c.extend_from_slice.new.self.items ≡ c.loop-bytes.bytes.items ++ take c.in-Bytes.n c.read.new.buf =
+      grind (arith, common_steps) in
       more_taken c.loop-bytes.bytes.items _ c.read.new.buf content c.in-Bytes.n (omega (arith, c.in-Bytes.ensures.bounds)) more front gives;
 }
 
 pub returns-in-End-clause-whole : goal.returns-in-End-clause-whole
 returns-in-End-clause-whole g c = has_content _ _ _ c.loop-bytes.invariant.there (λ content told.
-    let here : IsTold (g.H.Shelf.contents c.loop-bytes.shelf) (g.H.Shelf.started c.loop-bytes.shelf) content = rw (c.loop-bytes.invariant.kept, c.loop-bytes.invariant.name (is_told_by _ _ _ told)) told in
-    all_taken _ content (c.loop-bytes.invariant.read content told) (sym c.loop-bytes.invariant.place ∙ c.in-End.ensures.end refl content here))
+    let here : IsTold (g.H.Shelf.contents c.loop-bytes.shelf) (g.H.Shelf.started c.loop-bytes.shelf) content =
+    rw (c.loop-bytes.invariant.kept, c.loop-bytes.invariant.name (is_told_by _ _ _ told)) told in
+    all_taken _ content (c.loop-bytes.invariant.read content told)
+    (sym c.loop-bytes.invariant.place ∙ c.in-End.ensures.end refl content here))
 
 pub returns-clause-too_long : goal.returns-clause-too_long
 returns-clause-too_long g c = λ e. (
   omega (arith, c.loop-bytes.invariant.place, c.loop-bytes.invariant.inside),
-  has_content _ _ _ c.loop-bytes.invariant.there (λ content told. omega (arith, (c.loop-bytes.invariant.read content told).within, c.loop-bytes.invariant.inside)),
+  has_content _ _ _ c.loop-bytes.invariant.there
+      (λ content told. omega (arith, (c.loop-bytes.invariant.read content told).within, c.loop-bytes.invariant.inside)),
 )

@@ -10,7 +10,8 @@ use Rattle.mr_split.proofs.cutting.pieces.Goals as goal
 
 pub returns-clause-each : goal.returns-clause-each
 returns-clause-each c =
-    subst (All (IsPiece (boundary_of c.args.kind c.args.bytes.now) (length c.args.bytes.now))) (sym c.in_ok-pieces.ensures.exact) (each_of c.args.kind c.args.bytes.now c.args.chunk)
+    subst (All (IsPiece (boundary_of c.args.kind c.args.bytes.now) (length c.args.bytes.now))) (sym c.in_ok-pieces.ensures.exact)
+    (each_of c.args.kind c.args.bytes.now c.args.chunk)
 
 pub returns-clause-joined : goal.returns-clause-joined
 returns-clause-joined c =
@@ -21,4 +22,5 @@ pub returns-clause-items : goal.returns-clause-items
 returns-clause-items c = λ begins.
     let len = length c.args.bytes.now in
     ap (flat_map (λ piece. items_in piece (filter begins (range_with_len 0 len)))) c.in_ok-pieces.ensures.exact
-    ∙ items_joined _ _ (flat_map-all_tasks (λ x. x ∷ []) begins len _ (pieces_of-IsChain (boundary_of c.args.kind c.args.bytes.now) c.args.chunk len))
+    ∙ items_joined
+    _ _ (flat_map-all_tasks (λ x. x ∷ []) begins len _ (pieces_of-IsChain (boundary_of c.args.kind c.args.bytes.now) c.args.chunk len))

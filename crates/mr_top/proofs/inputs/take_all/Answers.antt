@@ -1,7 +1,7 @@
 use Rattle.std.proofs.Common.{rules, ◌+◌, ◌≤◌, [], ◌∷◌, Ok, length, subst, sym, ◌∙◌, ap}
 use Rattle.std.specs.Prelude.{All}
 use Rattle.std.proofs.lemmas.List.{length-append}
-use Rattle.mr_jobs.specs.JobEnding.{input_limit}
+use Rattle.mr_defs.specs.Limits.{input_limit}
 use Rattle.mr_top.specs.Halts.{Halts}
 use Rattle.mr_top.specs.RunEnding.{input_at}
 use Rattle.mr_top.specs.Stages.{ComesTo}

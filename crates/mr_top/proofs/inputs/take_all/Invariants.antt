@@ -1,6 +1,6 @@
 use Rattle.std.proofs.Common.{◌≡◌, ◌≤◌, length}
 use Rattle.std.specs.Prelude.{All}
-use Rattle.mr_jobs.specs.JobEnding.{input_limit}
+use Rattle.mr_defs.specs.Limits.{input_limit}
 use Rattle.mr_top.proofs.InTurn.{Reads}
 use Rattle.mr_top.proofs.inputs.take_all.Given as goal
 

@@ -1,5 +1,5 @@
 use Rattle.std.proofs.Common.{◌≤◌, length, subst, sym}
-use Rattle.mr_jobs.specs.JobEnding.{input_limit}
+use Rattle.mr_defs.specs.Limits.{input_limit}
 use Rattle.mr_top.proofs.Short.{generated_short}
 use Rattle.mr_top.proofs.modes.text_of.Goals as goal
 

@@ -1,4 +1,5 @@
-use Rattle.std.proofs.Common.{rules, ◌≡◌, ◌+◌, ◌*◌, ◌/◌, ◌<◌, ◌≤◌, ◌∙◌, ℕ, List, [], ◌∷◌, length, slice_index, slice_index_or, refl, sym, ap, subst, arith}
+use Rattle.std.proofs.Common.{rules, ◌≡◌, ◌+◌, ◌*◌, ◌/◌, ◌<◌, ◌≤◌, ◌∙◌, ℕ, List, [], ◌∷◌, length, slice_index, slice_index_or, refl, sym}
+use Rattle.std.proofs.Common.{ap, subst, arith}
 use Rattle.mr_base.specs.Tasks.{total_of, start_of}
 use Rattle.mr_claims.specs.Lawful.{view, IsLawful}
 use Rattle.mr_claims.specs.declared.claims.ClaimPass.{ClaimPass}
@@ -12,10 +13,12 @@ of_words-requires c =
     let ranges = c.args.ranges.now in
     let bounds = c.copy.ensures.bounds in
     let words = c.as_slice.ensures.value in
-    subst (λ (l : List (ℕ × ℕ)). IsLawful (total_of l) (length l) c.as_slice.result.now (view (total_of l) (length l) (length l) [] [] ∷ [])) (sym c.in_ok-kept.ensures.same)
+    subst (λ (l : List (ℕ × ℕ)). IsLawful (total_of l) (length l) c.as_slice.result.now
+    (view (total_of l) (length l) (length l) [] [] ∷ [])) (sym c.in_ok-kept.ensures.same)
     (begins (total_of ranges) (length ranges) c.as_slice.result.now bounds.0 bounds.1 bounds.2
     (ap length words ∙ c.in_ok-words.ensures.len)
-    (λ q lt. ap (λ l. slice_index l (q * 8)) words ∙ c.in_ok-words.ensures.starts (q * 8) (omega (arith, lt)) ∙ ap (start_of (total_of ranges) (length ranges)) (queue_of-word_of q)))
+    (λ q lt. ap (λ l. slice_index l (q * 8)) words ∙ c.in_ok-words.ensures.starts (q * 8) (omega (arith, lt))
+    ∙ ap (start_of (total_of ranges) (length ranges)) (queue_of-word_of q)))
 
 pub loop-number-preserved : goal.loop-number-preserved
 loop-number-preserved c =
@@ -25,12 +28,19 @@ loop-number-preserved c =
     let spare = c.push.ensures.spare in
     let room = i.3 in
     let ranges = ap length i.1 in
-    let cut = cut_one c.whole-claims.result c.loop-number.seat c.cut_off-own.new.seat c.cut_off-own.result c.loop-number.number c.loop-number.passes.items c.unused.result i.0
-    (omega (arith, lt, queues, ranges)) c.cut_off-own.ensures.same c.cut_off-own.ensures.left c.cut_off-own.ensures.right c.unused.ensures in
-    (subst (Cutting c.whole-claims.result c.cut_off-own.new.seat (c.loop-number.number + 1)) (sym c.push.ensures.items) cut, i.1, i.2, omega (arith, spare, room))
+    let cut = cut_one c.whole-claims.result c.loop-number.seat c.cut_off-own.new.seat c.cut_off-own.result c.loop-number.number
+    c.loop-number.passes.items c.unused.result i.0
+    (omega (arith, lt, queues, ranges)) c.cut_off-own.ensures.same c.cut_off-own.ensures.left c.cut_off-own.ensures.right
+    c.unused.ensures in (
+      subst (Cutting c.whole-claims.result c.cut_off-own.new.seat (c.loop-number.number + 1)) (sym c.push.ensures.items) cut,
+      i.1,
+      i.2,
+      omega (arith, spare, room),
+    )
 
 all_of : (c : goal.After-drop-words-2) → (length c.push-2.new.self.items ≡ length c.whole-claims.result.ranges)
-    × ((i : ℕ) (d : ClaimPass) → i < length c.whole-claims.result.ranges → IsUnused c.whole-claims.result i (slice_index_or c.push-2.new.self.items i d))
+    × ((i : ℕ) (d : ClaimPass) → i < length c.whole-claims.result.ranges
+    → IsUnused c.whole-claims.result i (slice_index_or c.push-2.new.self.items i d))
 all_of c =
     let i = c.loop-number.invariant in
     let no = c.loop-number-test.false in
@@ -38,9 +48,11 @@ all_of c =
     let queues = i.2 in
     let ranges = ap length i.1 in
     let some = c.queues-queues.ensures.few.0 in
-    subst (λ (l : List ClaimPass). (length l ≡ length c.whole-claims.result.ranges) × ((i : ℕ) (d : ClaimPass) → i < length c.whole-claims.result.ranges → IsUnused c.whole-claims.result i (slice_index_or l i d)))
+    subst (λ (l : List ClaimPass). (length l ≡ length c.whole-claims.result.ranges)
+    × ((i : ℕ) (d : ClaimPass) → i < length c.whole-claims.result.ranges → IsUnused c.whole-claims.result i (slice_index_or l i d)))
     (sym c.push-2.ensures.items)
-    (all_cut c.whole-claims.result c.loop-number.seat c.loop-number.number c.loop-number.passes.items c.unused-2.result i.0 (omega (arith, no, end, queues, ranges, some))
+    (all_cut c.whole-claims.result c.loop-number.seat c.loop-number.number c.loop-number.passes.items c.unused-2.result i.0
+    (omega (arith, no, end, queues, ranges, some))
     (subst (λ k. IsNew c.loop-number.seat k c.unused-2.result) (omega (arith, no, end)) c.unused-2.ensures))
 
 pub returns-clause-passes : goal.returns-clause-passes

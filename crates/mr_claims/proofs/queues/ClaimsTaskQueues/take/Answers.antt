@@ -3,7 +3,8 @@ use Rattle.mr_claims.specs.Passes.{queue_after}
 use Rattle.mr_claims.proofs.Passing.{every_end, ends}
 use Rattle.mr_claims.proofs.queues.ClaimsTaskQueues.take.Goals as goal
 
-all_looked : (c : goal.After-pass-1) → (k : ℕ) → k < length c.args.self.now.ranges → slice_index_or c.loop-step.pass.seen (queue_after (length c.args.self.now.ranges) c.loop-step.pass.number k) false ≡ true
+all_looked : (c : goal.After-pass-1) → (k : ℕ) → k < length c.args.self.now.ranges
+    → slice_index_or c.loop-step.pass.seen (queue_after (length c.args.self.now.ranges) c.loop-step.pass.number k) false ≡ true
 all_looked c k lt =
     let i = c.loop-step.invariant in
     let no = c.loop-step-test.false in

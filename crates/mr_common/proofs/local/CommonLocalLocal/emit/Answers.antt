@@ -26,20 +26,31 @@ returns-in-Won-clause-ok c es was =
     let w = c.in-Won.ensures.won refl in
     let t = c.ranges.value.sfits in
     let z : to_z w64 (of_z w64 c.args.value) ≡ c.args.value = grind (arith, to_z-of_z, t) in
-    let more : won c.emit.new.pass ≡ won c.args.self.now.pass ++ (c.args.key, c.args.value) ∷ [] = w.0 ∙ (λ i. won c.args.self.now.pass ++ (c.key.view_is i, z i) ∷ []) in
-    let lt : c.key.inside.0 < c.args.self.now.array.now.size = dite (dec_lt c.key.inside.0 c.args.self.now.array.now.size) (λ x. x) (λ no. absurd (let e = c.in-Won.ensures.outside.1 (omega (arith, no)) in cc)) in
-    rw (more, w.1) (after_won nat_cmp_total nat_cmp-IsAntisymmetric (λ k. nat_lt k c.args.self.now.array.now.size) _ _ _ _ es was c.args.key c.args.value (below c.args.self.now.array.now.size c.args.key (subst (λ k. k < c.args.self.now.array.now.size) c.key.view_is lt)))
+    let more : won c.emit.new.pass ≡ won c.args.self.now.pass ++ (c.args.key, c.args.value) ∷ [] =
+    w.0 ∙ (λ i. won c.args.self.now.pass ++ (c.key.view_is i, z i) ∷ []) in
+    let lt : c.key.inside.0 < c.args.self.now.array.now.size = dite (dec_lt c.key.inside.0 c.args.self.now.array.now.size) (λ x. x)
+    (λ no. absurd (let e = c.in-Won.ensures.outside.1 (omega (arith, no)) in cc)) in
+    rw (more, w.1) (after_won nat_cmp_total nat_cmp-IsAntisymmetric
+    (λ k. nat_lt k c.args.self.now.array.now.size) _ _ _ _ es was c.args.key c.args.value
+    (below c.args.self.now.array.now.size c.args.key (subst (λ k. k < c.args.self.now.array.now.size) c.key.view_is lt)))
 
 pub returns-in-Twice-clause-ok : goal.returns-in-Twice-clause-ok
 returns-in-Twice-clause-ok c es was =
     let w = c.in-Twice.ensures.twice refl in
-    let more : refused c.emit.new.pass ≡ refused c.args.self.now.pass ++ c.args.key ∷ [] = w.1 ∙ (λ i. refused c.args.self.now.pass ++ c.key.view_is i ∷ []) in
-    let lt : c.key.inside.0 < c.args.self.now.array.now.size = dite (dec_lt c.key.inside.0 c.args.self.now.array.now.size) (λ x. x) (λ no. absurd (let e = c.in-Twice.ensures.outside.1 (omega (arith, no)) in cc)) in
-    rw (w.0, more, c.keep_lesser.ensures) (after_refused nat_cmp_total nat_cmp-IsAntisymmetric (λ k. nat_lt k c.args.self.now.array.now.size) _ _ _ _ es was c.args.key c.args.value (below c.args.self.now.array.now.size c.args.key (subst (λ k. k < c.args.self.now.array.now.size) c.key.view_is lt)))
+    let more : refused c.emit.new.pass ≡ refused c.args.self.now.pass ++ c.args.key ∷ [] =
+    w.1 ∙ (λ i. refused c.args.self.now.pass ++ c.key.view_is i ∷ []) in
+    let lt : c.key.inside.0 < c.args.self.now.array.now.size = dite (dec_lt c.key.inside.0 c.args.self.now.array.now.size) (λ x. x)
+    (λ no. absurd (let e = c.in-Twice.ensures.outside.1 (omega (arith, no)) in cc)) in
+    rw (w.0, more, c.keep_lesser.ensures)
+    (after_refused nat_cmp_total nat_cmp-IsAntisymmetric
+    (λ k. nat_lt k c.args.self.now.array.now.size) _ _ _ _ es was c.args.key c.args.value
+    (below c.args.self.now.array.now.size c.args.key (subst (λ k. k < c.args.self.now.array.now.size) c.key.view_is lt)))
 
 pub returns-in-Outside-clause-ok : goal.returns-in-Outside-clause-ok
 returns-in-Outside-clause-ok c es was =
     let same = c.in-Outside.ensures.unchanged refl in
     let past = c.in-Outside.ensures.outside.0 refl in
     rw (ap won same, ap refused same, c.keep_lesser-in-Outside.ensures)
-    (after_outside nat_cmp_total nat_cmp-IsAntisymmetric (λ k. nat_lt k c.args.self.now.array.now.size) _ _ _ _ es was c.args.key c.args.value (not_below c.args.self.now.array.now.size c.args.key (subst (λ k. c.args.self.now.array.now.size ≤ k) c.key.view_is past)))
+    (after_outside nat_cmp_total nat_cmp-IsAntisymmetric
+    (λ k. nat_lt k c.args.self.now.array.now.size) _ _ _ _ es was c.args.key c.args.value
+    (not_below c.args.self.now.array.now.size c.args.key (subst (λ k. c.args.self.now.array.now.size ≤ k) c.key.view_is past)))

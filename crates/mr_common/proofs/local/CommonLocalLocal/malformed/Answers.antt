@@ -5,4 +5,5 @@ use Rattle.mr_common.proofs.Emitting.{after_no_form}
 use Rattle.mr_common.proofs.local.CommonLocalLocal.malformed.Goals as goal
 
 pub returns-clause-stands : goal.returns-clause-stands
-returns-clause-stands c es was = rw c.keep_lesser.ensures (after_no_form nat_cmp_total nat_cmp-IsAntisymmetric (λ k. nat_lt k c.args.self.now.array.now.size) _ _ _ _ es was c.args.offset)
+returns-clause-stands c es was = rw c.keep_lesser.ensures
+    (after_no_form nat_cmp_total nat_cmp-IsAntisymmetric (λ k. nat_lt k c.args.self.now.array.now.size) _ _ _ _ es was c.args.offset)

@@ -9,6 +9,8 @@ pub returns-clause-all : goal.returns-clause-all
 returns-clause-all g c =
     let table = c.args.self.now.table in
     let entries = table.entries.items in
-    subst (IsPartition g.K.Ord.cmp (λ k. find g.K.Ord.cmp k (pairs_of entries)) (λ k. g.K.Key.hash_of k % g.row.N % c.args.parts) c.args.part)
-    (passed_to g.K.Key.hash_of g.row.N c.args.parts c.args.part entries table.buckets.items table.in_buckets 0 c.first_place.result (omega arith) (λ place l a b. c.first_place.ensures place l b))
+    subst
+    (IsPartition g.K.Ord.cmp (λ k. find g.K.Ord.cmp k (pairs_of entries)) (λ k. g.K.Key.hash_of k % g.row.N % c.args.parts) c.args.part)
+    (passed_to g.K.Key.hash_of g.row.N c.args.parts c.args.part entries table.buckets.items table.in_buckets 0 c.first_place.result
+    (omega arith) (λ place l a b. c.first_place.ensures place l b))
     (whole_part g.met.K.Key.only_equal_tie (λ k. g.K.Key.hash_of k % g.row.N % c.args.parts) c.args.part entries table.distinct)

@@ -8,8 +8,10 @@ invariant-loop-cursor g l = record {
   part : l.cursor.part ≡ l.initial.cursor.part;
   parts : l.cursor.parts ≡ l.initial.cursor.parts;
   some : 1 ≤ l.cursor.parts;
-  left : of_partition g.K.Key.hash_of g.row.N l.initial.cursor.parts l.initial.cursor.part (drop l.initial.cursor.place (pairs_of l.self.table.entries.items))
-      ≡ of_partition g.K.Key.hash_of g.row.N l.initial.cursor.parts l.initial.cursor.part (drop l.cursor.place (pairs_of l.self.table.entries.items));
+  left : of_partition g.K.Key.hash_of g.row.N l.initial.cursor.parts l.initial.cursor.part
+      (drop l.initial.cursor.place (pairs_of l.self.table.entries.items))
+      ≡ of_partition g.K.Key.hash_of g.row.N l.initial.cursor.parts l.initial.cursor.part
+      (drop l.cursor.place (pairs_of l.self.table.entries.items));
 }
 
 abbrev pub decreases-loop-cursor : goal.decreases-loop-cursor

@@ -28,19 +28,24 @@ invariant_of-self g c =
 pub returns-in-Some-clause-cells : goal.returns-in-Some-clause-cells
 returns-in-Some-clause-cells g c =
     let table = c.args.self.now in
-    on_ok c.add.result c.add.ensures.ok (cell_changed g.met.K.Ord.total g.met.K.Key.only_equal_tie g.C.Combiner.merged table.entries.items c.args.key (g.C.Combiner.unit_of c.args.value) c.add.new.cell c.in-Some.at c.index_mut-entry.result.now table.distinct
+    on_ok c.add.result c.add.ensures.ok
+    (cell_changed g.met.K.Ord.total g.met.K.Key.only_equal_tie g.C.Combiner.merged table.entries.items c.args.key
+    (g.C.Combiner.unit_of c.args.value) c.add.new.cell c.in-Some.at c.index_mut-entry.result.now table.distinct
     (subst (λ n. c.in-Some.at < n) table.entries.ok.0 c.in-Some.ensures.within) c.index_mut-entry.ensures.value
     (ap (λ e. g.K.Ord.cmp c.args.key e.key) c.index_mut-entry.ensures.value ∙ c.in-Some.ensures.place _))
 
 pub returns-in-Some-clause-len : goal.returns-in-Some-clause-len
 returns-in-Some-clause-len g c =
     let table = c.args.self.now in
-    let there = entry_found g.met.K.Ord.total g.met.K.Key.only_equal_tie table.entries.items c.args.key c.in-Some.at c.index_mut-entry.result.now table.distinct
+    let there = entry_found g.met.K.Ord.total g.met.K.Key.only_equal_tie table.entries.items c.args.key c.in-Some.at
+    c.index_mut-entry.result.now table.distinct
     (subst (λ n. c.in-Some.at < n) table.entries.ok.0 c.in-Some.ensures.within) c.index_mut-entry.ensures.value
     (ap (λ e. g.K.Ord.cmp c.args.key e.key) c.index_mut-entry.ensures.value ∙ c.in-Some.ensures.place _) in
-    either_way c.add.result (length-set table.entries.items c.in-Some.at _ ∙ ap (λ x. cond (is_some x) (length table.entries.items) (length table.entries.items + 1)) (sym there))
+    either_way c.add.result (length-set table.entries.items c.in-Some.at _ ∙ ap
+    (λ x. cond (is_some x) (length table.entries.items) (length table.entries.items + 1)) (sym there))
 
 pub returns-in_ok-insert-in-None-clause-cells : goal.returns-in_ok-insert-in-None-clause-cells
 returns-in_ok-insert-in-None-clause-cells g c q =
     ap (λ es. find g.K.Ord.cmp q (pairs_of es)) c.in_ok-insert-in-None.ensures.ok
-    ∙ cell_pushed g.met.K.Ord.total g.met.K.Key.only_equal_tie g.C.Combiner.merged c.args.self.now.entries.items c.args.key (g.C.Combiner.unit_of c.args.value) c.in_ok-cell-in-None.cell c.in-None.ensures.place c.in_ok-cell-in-None.ensures.ok q
+    ∙ cell_pushed g.met.K.Ord.total g.met.K.Key.only_equal_tie g.C.Combiner.merged c.args.self.now.entries.items c.args.key
+    (g.C.Combiner.unit_of c.args.value) c.in_ok-cell-in-None.cell c.in-None.ensures.place c.in_ok-cell-in-None.ensures.ok q

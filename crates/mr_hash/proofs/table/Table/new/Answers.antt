@@ -23,5 +23,6 @@ invariant_of-result g c =
       in_buckets = subst (λ es. c.new-2.result.items ≡ map (λ k. g.K.Key.hash_of k % g.row.N) (keys_of es)) none c.new-2.ensures.items;
       chained = no_heads _ _ _ c.no_chains.ensures;
       found = subst (λ es. Indexed index.len 60 index.items (map g.K.Key.code_of (keys_of es))) none
-          (subst (λ n. Indexed n 60 index.items []) (sym c.in_ok-index.ensures.len) (subst (λ l. Indexed 16 60 l []) (sym c.in_ok-index.ensures.items) (indexed_none 16 60)));
+          (subst (λ n. Indexed n 60 index.items []) (sym c.in_ok-index.ensures.len)
+          (subst (λ l. Indexed 16 60 l []) (sym c.in_ok-index.ensures.items) (indexed_none 16 60)));
     }
