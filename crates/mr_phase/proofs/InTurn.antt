@@ -9,7 +9,7 @@ use Rattle.std.specs.Cmp.{IsTotalOrder}
 use Rattle.std.specs.declared.cmp.Ordering.{Ordering}
 use Rattle.std.specs.Ordering.{is_lt}
 use Rattle.std.proofs.Math.Seq.{take-add}
-use Rattle.std.proofs.lemmas.List.{get_or-drop, get_or-take, length-drop, length-take, map-append, take_all, take_more}
+use Rattle.std.proofs.lemmas.List.{get_or-drop, get_or-map, get_or-take, length-drop, length-map, length-take, map-append, take_all, take_more}
 use Rattle.std.proofs.lemmas.List.Elements.{All-cons, All-nil, All-head, All-tail, All-append, All-get_or, All-map, filter_map-append}
 use Rattle.std.proofs.lemmas.List.Sorted.{ranks_by, sorted_far, All-permutation, IsPermutation-append, IsPermutation-map}
 use Rattle.std.proofs.lemmas.List.Sorted.{IsPermutation-refl, IsPermutation-trans}
@@ -55,6 +55,18 @@ picked_more entries words i w e h is some it =
     ∙ filter_map-append (λ v. slice_get entries (v % length entries)) (take i words) (w ∷ [])
     ∙ ap (λ o. picked entries (take i words) ++ cons_option o [])
     (slice_get-get_or entries (w % length entries) e (mod-lt w some) ∙ ap Some (sym it))
+
+-- the place at an index of the places of these numbers is that of the number at the index
+pub place_at : (count : ℕ) (words places : List ℕ) (i place : ℕ) → places ≡ map (λ w. w % count) words → i < length places
+    → place ≡ get_or places i 0 → (place ≡ get_or words i 0 % count) × (i < length words)
+place_at count words places i place all h is =
+    let few = subst (λ n. i < n) (ap length all ∙ length-map words (λ w. w % count)) h in
+    (is ∙ ap (λ l. get_or l i 0) all ∙ get_or-map (λ w. w % count) words i 0 0 few, few)
+
+pub place_inside : (count : ℕ) (words places : List ℕ) (i place : ℕ) → places ≡ map (λ w. w % count) words → i < length places
+    → place ≡ get_or places i 0 → 0 < count → place < count
+place_inside count words places i place all h is some =
+    subst (λ p. p < count) (sym (place_at count words places i place all h is).0) (mod-lt (get_or words i 0) some)
 
 pub pairs_more : {K C : Type 0} (block after : List (ℕ × Bor K × Bor C)) (x : ℕ × Bor K × Bor C) → after ≡ block ++ x ∷ []
     → pairs_of after ≡ pairs_of block ++ (x.1, x.2) ∷ []

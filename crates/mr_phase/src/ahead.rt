@@ -1,5 +1,5 @@
 ghost use Rattle.std.specs.Prelude.{◌≡◌, ◌≢◌, ◌-◌, ◌/◌, ◌<◌, ◌≤◌, ◌++◌, ◌∷◌, [], List, All, IfOk, OnOk, IfSome, MatchOption, get_or};
-ghost use Rattle.std.specs.Prelude.{length};
+ghost use Rattle.std.specs.Prelude.{◌%◌, length, map};
 ghost use Rattle.std.specs.Borrow.{Bor};
 ghost use Rattle.std.specs.List.Sorted.{IsPermutation, IsSortedByKey};
 ghost use Rattle.std.specs.Ordering.{eq_by_cmp};
@@ -55,7 +55,20 @@ fn block_end(words: &[u64], count: u64, start: usize) -> usize
     end
 }
 
-// The entries of these numbers, with the leads of their keys. It is a loop of its own, in which no load waits for another.
+// The places of the entries of these numbers. A division takes the processor's room for many loads, so these stand in a loop of their own.
+#[inline(never)]
+fn places_of(alloc: Global, words: &[u64], count: u64) -> Result<Vec<u64>, Memory>
+    requires { 0 < count }
+    ensures { IfOk result (λ places. places.items ≡ map (λ w. w % count) words.now) }
+{
+    let mut places = Vec::with_capacity(alloc, words.len())?;
+    for word in words {
+        places.push(*word % count)?;
+    }
+    Ok(places)
+}
+
+// The entries of these numbers, with the leads of their keys. In its loop no load waits for that of another entry.
 #[inline(never)]
 fn read_block<'a, K: Key, C>(
     alloc: Global,
@@ -67,10 +80,10 @@ fn read_block<'a, K: Key, C>(
     ensures all { IfOk result (λ block. pairs_of block.items ≡ picked entries.now words.now) }
     ensures len { IfOk result (λ block. length block.items ≡ length words.now) }
 {
-    let count = entries.len() as u64;
-    let mut block = Vec::with_capacity(alloc, words.len())?;
-    for word in words {
-        let entry = entries[(*word % count) as usize];
+    let places = places_of(alloc, words, entries.len() as u64)?;
+    let mut block = Vec::with_capacity(alloc, places.len())?;
+    for place in places.as_slice() {
+        let entry = entries[*place as usize];
         block.push((entry.0.lead(), entry.0, entry.1))?;
     }
     Ok(block)
