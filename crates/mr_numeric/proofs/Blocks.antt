@@ -1,11 +1,11 @@
 -- What a block emits column by column is what its rows emit, in another order.
 use Rattle.std.proofs.Common.{◌≡◌, ℕ, suc, zero, ◌+◌, ◌-◌, ◌*◌, ◌<◌, ◌≤◌, ℤ, pos, ◌*ℤ◌, nat_abs, List, [], ◌∷◌, ◌++◌, length, map, min, zip}
 use Rattle.std.proofs.Common.{get_or, slice_get, Some, None, if◌then◌else◌, IsPermutation, refl, sym, ap, ap₂, subst, ◌∙◌, append_assoc}
-use Rattle.std.proofs.Common.{arith, w64, to_z, of_z}
+use Rattle.std.proofs.Common.{arith, w32, w64, to_z, of_z}
 use Rattle.std.specs.Prelude.{flat_map}
 use Rattle.std.specs.List.{All, AllByRecursion, range_with_len}
 use Rattle.std.proofs.lemmas.Bool.{le-leb}
-use Rattle.std.proofs.lemmas.Int.{unsigned_abs-mul, fits_signed_from_abs}
+use Rattle.std.proofs.lemmas.Int.{unsigned_abs-mul, fits_signed_from_abs, to_z-of_z}
 use Rattle.std.specs.Int.RustNames.{FitsSigned}
 use Rattle.std.proofs.lemmas.List.{length-map, get_or-map}
 use Rattle.std.proofs.lemmas.List.Concat.{flat_map_single}
@@ -99,16 +99,23 @@ one_emission key x h = sym (sum_of_number key x) ∙ ap (sum_of key) (number_is 
     number_is : (x : ℤ) → nat_abs x ≤ limit → number_within x ≡ Some x
     number_is x h = ap (λ t. if t then Some x else None) (le-leb (nat_abs x) limit h)
 
-pub mild_product : (x y : ℤ) → nat_abs x ≤ 3037000499 → nat_abs y ≤ 3037000499 → nat_abs (x *ℤ y) ≤ limit
-mild_product x y left right = omega (arith, unsigned_abs-mul x y, mul-le (nat_abs x) (nat_abs y) 3037000499 3037000499 left right)
+pub mild_product : (x y : ℤ) → nat_abs x ≤ 2147483647 → nat_abs y ≤ 2147483647 → nat_abs (x *ℤ y) ≤ limit
+mild_product x y left right = omega (arith, unsigned_abs-mul x y, mul-le (nat_abs x) (nat_abs y) 2147483647 2147483647 left right)
 
-module _ (x y : ℤ) (left : nat_abs x ≤ 3037000499) (right : nat_abs y ≤ 3037000499) where
-  pub mild_fits : FitsSigned w64 (to_z w64 (of_z w64 x) *ℤ to_z w64 (of_z w64 y))
-  mild_fits = rw (kept x (omega (arith, left)), kept y (omega (arith, right)))
-      (fits_signed_from_abs w64 (x *ℤ y) (omega (arith, mild_product x y left right)))
+-- a mild number as 32 bits hold it, and then 64
+abbrev pub held : ℤ → ℤ
+held x = to_z w64 (of_z w64 (to_z w32 (of_z w32 x)))
 
-  pub mild_is : to_z w64 (of_z w64 (to_z w64 (of_z w64 x) *ℤ to_z w64 (of_z w64 y))) ≡ x *ℤ y
-  mild_is = rw (kept x (omega (arith, left)), kept y (omega (arith, right))) (kept (x *ℤ y) (mild_product x y left right))
+held_is : (x : ℤ) → nat_abs x ≤ 2147483647 → held x ≡ x
+held_is x h =
+    ap (λ z. to_z w64 (of_z w64 z)) (to_z-of_z w32 x (fits_signed_from_abs w32 x (omega (arith, h)))) ∙ kept x (omega (arith, h))
+
+module _ (x y : ℤ) (left : nat_abs x ≤ 2147483647) (right : nat_abs y ≤ 2147483647) where
+  pub mild_fits : FitsSigned w64 (held x *ℤ held y)
+  mild_fits = rw (held_is x left, held_is y right) (fits_signed_from_abs w64 (x *ℤ y) (omega (arith, mild_product x y left right)))
+
+  pub mild_is : to_z w64 (of_z w64 (held x *ℤ held y)) ≡ x *ℤ y
+  mild_is = rw (held_is x left, held_is y right) (kept (x *ℤ y) (mild_product x y left right))
 
 -- two lists multiplied, place by place
 module _ (left right : List ℤ) where
@@ -160,15 +167,15 @@ module _ (means : List ℤ) (grid : List (List ℤ)) (from n : ℕ) (alike : len
   column_is : (j : ℕ) → j < c → get_or (block_of means grid from n) j [] ≡ deviations_of means grid from n j
   column_is j h = get_or-map-range_with_len (deviations_of means grid from n) 0 c j j [] h (omega arith)
 
-  mild_at : (j r : ℕ) → j < c → from ≤ r → r < from + n → nat_abs (at_row j r) ≤ 3037000499
+  mild_at : (j r : ℕ) → j < c → from ≤ r → r < from + n → nat_abs (at_row j r) ≤ 2147483647
   mild_at j r h l m =
       let place : r - from < n = omega (arith, l, m) in
       let size = length-map-range_with_len (at_row j) from n in
       let long = length-map-range_with_len (deviations_of means grid from n) 0 c in
       let column : AreMild (deviations_of means grid from n j) =
       subst AreMild (column_is j h) (All-get_or AreMild (block_of means grid from n) j [] (omega (arith, long, h)) mild) in
-      subst (λ z. nat_abs z ≤ 3037000499) (get_or-map-range_with_len (at_row j) from n (r - from) r (pos 0) place (omega (arith, l)))
-      (All-get_or (λ z. nat_abs z ≤ 3037000499) (deviations_of means grid from n j) (r - from) (pos 0) (omega (arith, size, place)) column)
+      subst (λ z. nat_abs z ≤ 2147483647) (get_or-map-range_with_len (at_row j) from n (r - from) r (pos 0) place (omega (arith, l)))
+      (All-get_or (λ z. nat_abs z ≤ 2147483647) (deviations_of means grid from n j) (r - from) (pos 0) (omega (arith, size, place)) column)
 
   row_is : (r : ℕ) → from ≤ r → r < from + n → spread_emits means grid r ≡ map (emission r) (column_couples c)
   row_is r l m =

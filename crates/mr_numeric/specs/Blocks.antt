@@ -12,9 +12,9 @@ deviations_of means grid from count j = map (λ r. deviation means (get_or grid 
 abbrev pub block_of : List ℤ → List (List ℤ) → ℕ → ℕ → List (List ℤ)
 block_of means grid from count = map (deviations_of means grid from count) (range_with_len 0 (length means))
 
--- no magnitude is over the greatest one whose square is within the limit of a value
+-- no magnitude is over the greatest that 32 bits hold
 abbrev pub AreMild : List ℤ → Type 0
-AreMild zs = All (λ z. nat_abs z ≤ 3037000499) zs
+AreMild zs = All (λ z. nat_abs z ≤ 2147483647) zs
 
 -- the numbers of two columns in the same row, multiplied
 abbrev pub products_of : List ℤ → List ℤ → List ℤ

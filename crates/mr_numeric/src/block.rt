@@ -1,4 +1,4 @@
-ghost use Rattle.std.specs.Prelude.{◌≡◌, ◌≤◌, ◌<◌, ◌-◌, ◌*ℤ◌, pos, true, nat_abs, List, length, slice_index_or, IfOk};
+ghost use Rattle.std.specs.Prelude.{◌≡◌, ◌≤◌, ◌<◌, ◌-◌, ◌*ℤ◌, pos, nat_abs, List, length, slice_index_or, IfOk, IfSome};
 ghost use Rattle.std.specs.List.{All};
 ghost use Rattle.mr_defs.specs.Folded.{limit};
 ghost use Rattle.mr_defs.specs.Limits.{greatest_element};
@@ -12,13 +12,13 @@ use mr_grid::Grid;
 use std::alloc::Global;
 use std::marker::Model;
 
-/// The greatest magnitude whose square is within that of a value.
-const MILD: u64 = 3037000499;
+/// The greatest magnitude of a number of a block: 32 bits hold it, and a product of two is within the limit of a value.
+const MILD: u64 = 2147483647;
 
 /// What the elements of a column differ from its mean by, in the rows of a block, seen as the list of them.
 #[derive(Drop)]
 pub(crate) struct Column {
-    deviations: Vec<i64>,
+    deviations: Vec<i32>,
 }
 
 impl Model for Column {
@@ -30,7 +30,7 @@ impl Model for Column {
 }
 
 impl Column {
-    /// A column of the rows from one number up to another.
+    /// A column of the rows from one number up to another; None where what an element differs from the mean by is not mild.
     fn of(
         alloc: Global,
         grid: &Grid,
@@ -38,72 +38,57 @@ impl Column {
         from: u64,
         to: u64,
         j: usize,
-    ) -> Result<Column, Memory>
+    ) -> Result<Option<Column>, Memory>
         requires means { All (λ z. nat_abs z ≤ greatest_element) means.now }
         requires alike { length means.now ≡ columns_of grid.now }
         requires j { j < columns_of grid.now }
         requires order { from ≤ to }
         requires inside { to ≤ length grid.now }
-        ensures { IfOk result (λ column. column ≡ deviations_of means.now grid.now from (to - from) j) }
+        ensures column { IfOk result (λ o. IfSome o (λ column. column ≡ deviations_of means.now grid.now from (to - from) j)) }
+        ensures mild { IfOk result (λ o. IfSome o AreMild) }
     {
         let mut deviations = Vec::with_capacity(alloc, (to - from) as usize)?;
         for r in from..to {
-            deviations.push(deviation(grid.row(r), means, j))?;
+            let apart = deviation(grid.row(r), means, j);
+            if apart.unsigned_abs() > MILD {
+                return Ok(None);
+            }
+            deviations.push(apart as i32)?;
         }
-        Ok(Column { deviations })
+        Ok(Some(Column { deviations }))
     }
 
     /// The numbers.
-    fn as_slice(&self) -> &[i64]
+    fn as_slice(&self) -> &[i32]
         ensures { result.now ≡ self.now }
     {
         self.deviations.as_slice()
     }
 }
 
-/// All columns of the rows from one number up to another.
+/// All columns of the rows from one number up to another; None where what an element differs from its mean by is not mild.
 pub(crate) fn columns_between(
     alloc: Global,
     grid: &Grid,
     means: &[i128],
     from: u64,
     to: u64,
-) -> Result<Vec<Column>, Memory>
+) -> Result<Option<Vec<Column>>, Memory>
     requires means { All (λ z. nat_abs z ≤ greatest_element) means.now }
     requires alike { length means.now ≡ columns_of grid.now }
     requires order { from ≤ to }
     requires inside { to ≤ length grid.now }
-    ensures { IfOk result (λ columns. columns.items ≡ block_of means.now grid.now from (to - from)) }
+    ensures columns { IfOk result (λ o. IfSome o (λ columns. columns.items ≡ block_of means.now grid.now from (to - from))) }
+    ensures mild { IfOk result (λ o. IfSome o (λ columns. All AreMild columns.items)) }
 {
     let mut columns = Vec::with_capacity(alloc, means.len())?;
     for j in 0..means.len() {
-        columns.push(Column::of(alloc, grid, means, from, to, j)?)?;
+        let Some(column) = Column::of(alloc, grid, means, from, to, j)? else {
+            return Ok(None);
+        };
+        columns.push(column)?;
     }
-    Ok(columns)
-}
-
-/// Whether the product of any two numbers whose magnitudes are no greater than those of these is within the magnitude of a value.
-fn is_mild(numbers: &[i64]) -> bool
-    ensures { result ≡ true → AreMild numbers.now }
-{
-    for number in numbers {
-        if number.unsigned_abs() > MILD {
-            return false;
-        }
-    }
-    true
-}
-
-/// Whether the products of any two numbers of the columns are within the magnitude of a value.
-pub(crate) fn are_mild(columns: &[Column]) -> bool
-    ensures { result ≡ true → All AreMild columns.now }
-{
-    for column in columns {
-        if !is_mild(column.as_slice()) {
-            return false;
-        }
-    }
-    true
+    Ok(Some(columns))
 }
 
 /// What an element differs from its column's mean by.
@@ -122,8 +107,8 @@ pub(crate) fn deviation(row: &[i32], means: &[i128], j: usize) -> i64
 /// The products of the numbers of two columns in the same row, one after the other.
 #[derive(Drop)]
 pub(crate) struct Products<'a> {
-    left: &'a [i64],
-    right: &'a [i64],
+    left: &'a [i32],
+    right: &'a [i32],
     ghost mild_left: { AreMild left.now },
     ghost mild_right: { AreMild right.now },
 }
@@ -160,7 +145,7 @@ impl<'a> Run for Products<'a> {
 
 /// The product of the numbers at a place.
 #[inline(always)]
-fn product_at(left: &[i64], right: &[i64], at: usize) -> i64
+fn product_at(left: &[i32], right: &[i32], at: usize) -> i64
     requires left_in { at < length left.now }
     requires right_in { at < length right.now }
     requires left { AreMild left.now }
@@ -168,5 +153,5 @@ fn product_at(left: &[i64], right: &[i64], at: usize) -> i64
     ensures product { result ≡ slice_index_or left.now at (pos 0) *ℤ slice_index_or right.now at (pos 0) }
     ensures small { nat_abs result ≤ limit }
 {
-    left[at] * right[at]
+    left[at] as i64 * right[at] as i64
 }

@@ -11,7 +11,7 @@ ghost use Rattle.mr_split.specs.Pieces.{AreSpans};
 ghost use Rattle.mr_numeric.specs.Blocks.{AreMild, column_runs};
 ghost use Rattle.mr_numeric.specs.Pairs.{couple_emits};
 
-use crate::block::{Column, Products, are_mild, columns_between, deviation};
+use crate::block::{Column, Products, columns_between, deviation};
 use crate::means_of_columns::ColumnMeans;
 use crate::pairs::emit_sum;
 use crate::spanned::{Items, Spanned};
@@ -117,7 +117,7 @@ impl<'a> Deviations<'a> {
                 from,
                 to,
             )?;
-            if are_mild(&columns) {
+            if let Some(columns) = columns {
                 return emit_columns(alloc, &columns, out);
             }
         }
