@@ -90,14 +90,16 @@ where
     mapped.arrange(workers.rt, workers.alloc, job.partitions);
     let ranges = Ranges::even(workers.alloc, job.partitions, workers.count())?;
     let (queues, passes) = AnyQueues::of(workers.alloc, job.queue, &ranges)?;
-    reduce_phase::<T, AnyQueues, L, R>(
+    let reduced = reduce_phase::<T, AnyQueues, L, R>(
         workers.rt,
         workers.alloc,
         queues,
         passes,
         job.partitions,
         &mapped,
-    )
+    )?;
+    mapped.free(workers.rt, workers.alloc);
+    Ok(reduced)
 }
 
 /// The same tasks once more.

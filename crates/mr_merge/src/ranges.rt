@@ -25,7 +25,7 @@ pub(crate) fn values_of<T: Drop>(
 }
 
 // One list behind the other.
-fn joined<T: Drop>(alloc: Global, lists: Vec<Vec<T>>) -> Result<Vec<T>, Memory>
+fn appended<T: Drop>(alloc: Global, lists: Vec<Vec<T>>) -> Result<Vec<T>, Memory>
     ensures { IfOk result (λ all. all.items ≡ rows_of lists.items) }
 {
     let mut all = Vec::new(alloc);
@@ -52,6 +52,6 @@ pub(crate) fn plan_all<R: Threads + Sync, K: Key + Send + Sync, A: Drop + Send +
     { plan_of(alloc, &range) };
     let plans = thread::map_vec(rt, ranges, &plan_one)?;
     let plans = values_of(alloc, plans)?;
-    let plan = joined(alloc, plans)?;
+    let plan = appended(alloc, plans)?;
     Ok(plan)
 }

@@ -63,7 +63,7 @@ fn text_of<K: Key>(alloc: Global, range: Vec<&[(K, Answer)]>) -> Result<Text, Me
 }
 
 // One text behind the other.
-fn joined(alloc: Global, texts: Vec<Text>) -> Result<Text, Memory>
+fn appended(alloc: Global, texts: Vec<Text>) -> Result<Text, Memory>
     ensures { IfOk result (λ all. all ≡ concatenated texts.items) }
 {
     let mut all = Text::new(alloc);
@@ -71,6 +71,11 @@ fn joined(alloc: Global, texts: Vec<Text>) -> Result<Text, Memory>
         all.push(text.as_bytes())?;
     }
     Ok(all)
+}
+
+// Frees lists beside each other, in threads where they can be made.
+fn free_all<R: Threads + Sync, T: Drop + Send>(rt: &R, lists: Vec<Vec<T>>) {
+    let _freed = thread::map_vec(rt, lists, &|list: Vec<T>| drop(list));
 }
 
 /// The text of lists that ascend and whose keys all differ, as one list that ascends: a line for each row. No row is moved.
@@ -95,5 +100,6 @@ pub fn merged_text<R: Threads + Sync, K: Key + Send + Sync>(
     { text_of(alloc, range) };
     let texts = thread::map_vec(rt, ranges, &print)?;
     let texts = values_of(alloc, texts)?;
-    joined(alloc, texts)
+    free_all(rt, entries);
+    appended(alloc, texts)
 }

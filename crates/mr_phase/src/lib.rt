@@ -21,8 +21,6 @@ mod order;
 mod partition;
 mod reduce;
 mod taking;
-#[cfg(test)]
-mod tests;
 mod together;
 
 pub use blocks::{BlockPass, Blocks};

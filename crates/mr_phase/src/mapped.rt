@@ -43,6 +43,19 @@ impl<L: Drop> Mapped<L> {
     }
 }
 
+impl<L: Drop + Send> Mapped<L> {
+    /// Frees the hands, each in a thread of its own where one can be made.
+    pub fn free<R: Threads + Sync>(mut self, rt: &R, alloc: Global) {
+        let mut hands = Vec::new(alloc);
+        while let Some(hand) = self.hands.pop() {
+            if hands.push(hand).is_err() {
+                return;
+            }
+        }
+        let _freed = thread::map_vec(rt, hands, &|hand: Hand<L>| drop(hand));
+    }
+}
+
 // Arranges each hand, in a thread of its own where one can be made. A hand that finds no memory stays as it was.
 fn arrange_hands<R: Threads + Sync, L: Parted + Send>(
     rt: &R,

@@ -39,5 +39,5 @@ returns g c =
       ascend = gathered c.are_ordered.ensures (concatenated c.args.lists.items) rows all (taken_rise lt lists printed.0 printed.1)
           c.requires.differ;
     } in
-    if_ok c.joined.result (λ text. text ≡ concatenated c.in_ok-texts-2.texts.items)
-    (IsMergedText g.K.Ord.cmp g.K.Key.printed c.args.lists.items) (λ text e. (rows, merged, e ∙ printed.2)) c.joined.ensures
+    if_ok c.appended.result (λ text. text ≡ concatenated c.in_ok-texts-2.texts.items)
+    (IsMergedText g.K.Ord.cmp g.K.Key.printed c.args.lists.items) (λ text e. (rows, merged, e ∙ printed.2)) c.appended.ensures

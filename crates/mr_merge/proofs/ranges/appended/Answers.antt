@@ -3,7 +3,7 @@ use Rattle.std.proofs.lemmas.List.{map-id}
 use Rattle.std.proofs.lemmas.Iterator.Consumers.{YieldsList-end}
 use Rattle.std.proofs.lemmas.Iterator.Adapters.{YieldsList-from_vec}
 use Rattle.mr_merge.specs.Lists.{rows_of}
-use Rattle.mr_merge.proofs.ranges.joined.Goals as goal
+use Rattle.mr_merge.proofs.ranges.appended.Goals as goal
 
 pub returns : goal.returns
 returns g c =
