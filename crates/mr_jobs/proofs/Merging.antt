@@ -1,5 +1,5 @@
 -- Rows that were spread over lists are, merged again, the rows of the emissions.
-use Rattle.std.proofs.Common.{◌≡◌, Bool, true, false, cond, ◌&&◌, T, ℕ, List, [], ◌∷◌, map, filter, filter_map, Option, Some, None}
+use Rattle.std.proofs.Common.{◌≡◌, Bool, true, false, cond, ◌&&◌, T, List, [], ◌∷◌, map, filter, filter_map, Option, Some, None}
 use Rattle.std.proofs.Common.{option_map, Ok, Err, length, append-nil, refl, sym, ap, subst, ◌∙◌, arith}
 use Rattle.std.specs.Prelude.{All, IfOk}
 use Rattle.std.specs.declared.result.Result.{Result}

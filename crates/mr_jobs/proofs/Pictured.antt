@@ -1,6 +1,5 @@
 -- A job over a bitmap, or over grids.
-use Rattle.std.proofs.Common.{◌≡◌, ◌≤◌, Bool, true, false, cond, ℕ, ℤ, List, Option, Some, None, Ok, Err, refl, sym, ap, ◌∙◌}
-use Rattle.std.specs.declared.result.Result.{Result}
+use Rattle.std.proofs.Common.{◌≡◌, ℕ, List, Option, Some, None, Ok, Err, refl, sym, ap}
 use Rattle.std.specs.Option.{option_map_or}
 use Rattle.mr_base.specs.declared.status.Status.TheVariants as status
 use Rattle.mr_grid.specs.Pixels.{bitmap_of}

@@ -1,6 +1,6 @@
 -- Rounds that are run one after the other.
-use Rattle.std.proofs.Common.{◌≡◌, ◌<◌, ◌≤◌, ◌+◌, ◌-◌, ◌∙◌, ℕ, zero, suc, Bool, List, [], ◌∷◌, ◌++◌, Option, Ok, Err, append-nil}
-use Rattle.std.proofs.Common.{append_assoc, refl, sym, ap, subst, arith}
+use Rattle.std.proofs.Common.{◌≡◌, ◌<◌, ◌≤◌, ◌+◌, ◌-◌, ◌∙◌, ℕ, suc, Bool, List, [], ◌∷◌, ◌++◌, Option, Ok, Err, append-nil}
+use Rattle.std.proofs.Common.{append_assoc, sym, ap, subst, arith}
 use Rattle.std.specs.declared.result.Result.{Result}
 use Rattle.std.specs.declared.cmp.Ordering.{Ordering}
 use Rattle.mr_base.specs.Spare.{Spared}
@@ -12,11 +12,11 @@ use Rattle.mr_defs.specs.declared.Fault.{Fault}
 use Rattle.mr_items.specs.Report.{Work}
 use Rattle.mr_jobs.specs.Ending.{ended_by}
 use Rattle.mr_jobs.specs.Meets.{MeetsSeen, texted}
-use Rattle.mr_jobs.specs.Outcomes.{next_of}
+use Rattle.mr_jobs.specs.Sequels.{next_of}
 use Rattle.mr_jobs.specs.Shares.{AreLawfulRounds, IsLawfulRound}
 use Rattle.mr_jobs.specs.declared.output.Output.{Output}
 use Rattle.mr_jobs.specs.declared.refusal.Refusal.{Refusal}
-use Rattle.mr_jobs.specs.declared.rounds.Outcome.{Outcome}
+use Rattle.mr_jobs.specs.declared.rounds.Sequel.{Sequel}
 use Rattle.mr_report.specs.declared.printing.Share.{Share}
 
 module _ {K V S : Type 0} (R : K → K → Ordering) (inside : K → Bool) (shared : Bool) (folded : List V → Option Answer)
@@ -141,7 +141,7 @@ module _ {K V S : Type 0} (R : K → K → Ordering) (inside : K → Bool) (shar
         last_fault refusal led = ap (ended_by shown) (run.ending ∙ ap (λ n. rest n s) one_less) ∙ faulty shown left s refusal led
 
         -- or the round was stopped
-        pub last_stop : (why : Stop Refusal) → MeetsSeen {B = Outcome S × Spared Share} (λ o. next_of o.0)
+        pub last_stop : (why : Stop Refusal) → MeetsSeen {B = Sequel S × Spared Share} (λ o. next_of o.0)
             (ended_by shown (texted (next s) (round s))) (Err why)
             → MeetsSeen {B = Output} (λ o. o.text) (ended_by shown (rest most first)) (Err why)
         last_stop (stop.Refused refusal) led = last_fault refusal led

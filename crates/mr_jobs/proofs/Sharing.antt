@@ -1,5 +1,5 @@
 -- What each of several workers did.
-use Rattle.std.proofs.Common.{◌≡◌, Bool, ℕ, ◌+◌, length, List, [], ◌∷◌, ◌++◌, map, flat_map, take, get_or, refl, sym, ap, subst, ◌∙◌}
+use Rattle.std.proofs.Common.{◌≡◌, Bool, ℕ, ◌+◌, length, List, [], ◌∷◌, ◌++◌, map, flat_map, take, refl, sym, ap, subst, ◌∙◌}
 use Rattle.std.specs.Prelude.{All, Some, slice_get}
 use Rattle.std.specs.List.{range_with_len}
 use Rattle.std.specs.List.Sorted.{IsPermutation}

@@ -6,6 +6,6 @@ pub mod JobEnding
 pub mod LawfulReport
 pub mod Outputs
 pub mod Generated
-pub mod Outcomes
+pub mod Sequels
 pub mod Passes
 pub mod Printable

@@ -49,7 +49,11 @@ where
             at_reducer!(job.reducer, { List, Median, Distinct }, table_round[T, G, M](workers, job, mapper))
         }
         _ => {
-            at_combiner!(job.combiner, { Sum, Min, Max, One, Count, And, Or, Xor, MinMax, SumCount }, table_round[T, G, M](workers, job, mapper))
+            at_combiner!(
+                job.combiner,
+                { Sum, Min, Max, One, Count, And, Or, Xor, MinMax, SumCount },
+                table_round[T, G, M](workers, job, mapper)
+            )
         }
     }
 }
@@ -73,7 +77,11 @@ fn number_rows<T: Threads + Sync, G: Gate + Sync, M: Mapper<Key = NumKey, Value 
             at_reducer!(job.reducer, { List, Median, Distinct }, own_round[T, G, M](workers, job, mapper))
         }
         _ => {
-            at_combiner!(job.combiner, { Sum, Min, Max, One, Count, And, Or, Xor, MinMax, SumCount }, own_round[T, G, M](workers, job, mapper))
+            at_combiner!(
+                job.combiner,
+                { Sum, Min, Max, One, Count, And, Or, Xor, MinMax, SumCount },
+                own_round[T, G, M](workers, job, mapper)
+            )
         }
     }
 }

@@ -10,9 +10,9 @@ ghost use Rattle.mr_items.specs.Bitmap.{pixel_rows};
 ghost use Rattle.mr_items.specs.Histogram.{histogram_emits, histogram_emissions};
 ghost use Rattle.mr_items.specs.Texts.{rows_text};
 ghost use Rattle.mr_jobfile.specs.Seen.{seen};
-ghost use Rattle.mr_jobs.specs.JobEnding.{inside_of, is_shared, job_ending, number_keys};
-ghost use Rattle.mr_jobs.specs.LawfulReport.{IsLawfulReport};
+ghost use Rattle.mr_jobs.specs.JobEnding.{inside_of, is_shared, number_keys};
 ghost use Rattle.mr_jobs.specs.Meets.{IsOfInputs, MeetsSeen};
+ghost use Rattle.mr_jobs.specs.Outputs.{IsJobOutput};
 ghost use Rattle.mr_jobs.specs.Shares.{AreOnlyRound};
 ghost use Rattle.mr_report.specs.Shown.{rounds_seen};
 
@@ -85,9 +85,7 @@ pub(crate) fn histogram<T: Threads + Sync, G: Gate + Sync>(
     requires kind { job.now.job ≡ kind.Histogram }
     requires count { length inputs.now ≡ 1 }
     requires short { All (λ bytes. length bytes ≤ input_limit) inputs.now }
-    ensures ending { MeetsSeen (λ o. o.text) (job_ending (seen job.now) inputs.now) result }
-    ensures of_inputs { IsOfInputs result }
-    ensures shares { IfOk result (λ o. IsLawfulReport (seen job.now) inputs.now workers.now.count (rounds_seen o.rounds.items)) }
+    ensures { IsJobOutput (seen job.now) inputs.now workers.now.count result }
 {
     let input = first_input(inputs);
     match read_bitmap(input) {

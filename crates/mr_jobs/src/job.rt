@@ -4,6 +4,7 @@ ghost use Rattle.mr_jobfile.specs.Seen.{seen};
 ghost use Rattle.mr_jobs.specs.JobEnding.{inputs_wanted, job_ending};
 ghost use Rattle.mr_jobs.specs.LawfulReport.{IsLawfulReport};
 ghost use Rattle.mr_jobs.specs.Meets.{IsOfInputs, MeetsSeen};
+ghost use Rattle.mr_jobs.specs.Outputs.{IsJobOutput};
 ghost use Rattle.mr_jobs.specs.Printable.{IsPrintable};
 ghost use Rattle.mr_report.specs.Shown.{rounds_seen};
 
@@ -35,6 +36,29 @@ pub fn wanted(kind: JobKind) -> u32
     }
 }
 
+// What the job comes to on the bytes of its inputs.
+fn output_of<T: Threads + Sync, G: Gate + Sync>(
+    workers: &Workers<T, G>,
+    job: &Job,
+    inputs: &[Taken],
+) -> Result<Output, Stop<Refusal>>
+    requires count { length inputs.now ≡ inputs_wanted job.now.job }
+    requires short { All (λ bytes. length bytes ≤ input_limit) inputs.now }
+    ensures { IsJobOutput (seen job.now) inputs.now workers.now.count result }
+{
+    match job.job {
+        JobKind::WordCount => word_count(workers, job, inputs),
+        JobKind::FoldLines => fold_lines(workers, job, inputs),
+        JobKind::InvertedIndex => inverted_index(workers, job, inputs),
+        JobKind::StringMatch => string_match(workers, job, inputs),
+        JobKind::Histogram => histogram(workers, job, inputs),
+        JobKind::LinearRegression => linear_regression(workers, job, inputs),
+        JobKind::MatrixProduct => matrix_product(workers, job, inputs),
+        JobKind::KMeans => kmeans(workers, job, inputs),
+        JobKind::Pca => pca(workers, job, inputs),
+    }
+}
+
 /// Runs the job on the bytes of its inputs: as many as it has, each of at most 134217728 bytes.
 pub fn run_job<T: Threads + Sync, G: Gate + Sync>(
     workers: &Workers<T, G>,
@@ -48,15 +72,5 @@ pub fn run_job<T: Threads + Sync, G: Gate + Sync>(
     ensures shares { IfOk result (λ o. IsLawfulReport (seen job.now) inputs.now workers.now.count (rounds_seen o.rounds.items)) }
     ensures printable { IfOk result IsPrintable }
 {
-    match job.job {
-        JobKind::WordCount => word_count(workers, job, inputs),
-        JobKind::FoldLines => fold_lines(workers, job, inputs),
-        JobKind::InvertedIndex => inverted_index(workers, job, inputs),
-        JobKind::StringMatch => string_match(workers, job, inputs),
-        JobKind::Histogram => histogram(workers, job, inputs),
-        JobKind::LinearRegression => linear_regression(workers, job, inputs),
-        JobKind::MatrixProduct => matrix_product(workers, job, inputs),
-        JobKind::KMeans => kmeans(workers, job, inputs),
-        JobKind::Pca => pca(workers, job, inputs),
-    }
+    output_of(workers, job, inputs)
 }

@@ -5,9 +5,10 @@ ghost use Rattle.mr_defs.specs.Limits.{input_limit};
 ghost use Rattle.mr_items.specs.Grid.{columns_of};
 ghost use Rattle.mr_items.specs.KMeans.{kmeans_emits, kmeans_emissions, kmeans_next};
 ghost use Rattle.mr_jobfile.specs.Seen.{seen};
-ghost use Rattle.mr_jobs.specs.JobEnding.{inside_of, is_shared, job_ending, kmeans_ending};
+ghost use Rattle.mr_jobs.specs.JobEnding.{inside_of, is_shared, kmeans_ending};
 ghost use Rattle.mr_jobs.specs.LawfulReport as report;
 ghost use Rattle.mr_jobs.specs.Meets.{IsOfInputs, MeetsSeen};
+ghost use Rattle.mr_jobs.specs.Outputs.{IsJobOutput};
 ghost use Rattle.mr_jobs.specs.RoundOf.{IsRoundOfSpans};
 ghost use Rattle.mr_numeric.specs.Grids.{IsEven};
 ghost use Rattle.mr_numeric.specs.Sums.{AreMeans};
@@ -18,7 +19,7 @@ use crate::output::Output;
 use crate::phases::Round;
 use crate::refusal::Refusal;
 use crate::round::number_round;
-use crate::rounds::{Outcome, Rounds, run_rounds};
+use crate::rounds::{Rounds, Sequel, run_rounds};
 use crate::workers::Workers;
 use mr_base::{Fault, Memory, NumKey, Rows, Stop};
 use mr_combine::{Plain, Point, VecSum};
@@ -106,17 +107,17 @@ impl<'a> Rounds for Points<'a> {
 
     ghost next = { λ p s rows. kmeans_next s rows };
 
-    fn outcome(
+    fn sequel(
         &self,
         alloc: Global,
         state: &Moving,
         rows: &Rows<NumKey>,
-    ) -> Result<Outcome<Moving>, Memory> {
+    ) -> Result<Sequel<Moving>, Memory> {
         let means = next_means(alloc, &state.means, rows)?;
         if means.same(&state.means) || state.left <= 1 {
-            return Ok(Outcome::Ended(kmeans_text(alloc, &means, rows)?));
+            return Ok(Sequel::Ended(kmeans_text(alloc, &means, rows)?));
         }
-        Ok(Outcome::Again(Moving {
+        Ok(Sequel::Again(Moving {
             means,
             left: state.left - 1,
         }))
@@ -160,9 +161,7 @@ pub(crate) fn kmeans<T: Threads + Sync, G: Gate + Sync>(
     requires kind { job.now.job ≡ kind.KMeans }
     requires count { length inputs.now ≡ 1 }
     requires short { All (λ bytes. length bytes ≤ input_limit) inputs.now }
-    ensures ending { MeetsSeen (λ o. o.text) (job_ending (seen job.now) inputs.now) result }
-    ensures of_inputs { IsOfInputs result }
-    ensures shares { IfOk result (λ o. report.IsLawfulReport (seen job.now) inputs.now workers.now.count (rounds_seen o.rounds.items)) }
+    ensures { IsJobOutput (seen job.now) inputs.now workers.now.count result }
 {
     match grid_input(workers, inputs, 0) {
         Ok(grid) => moved(workers, job, &grid),

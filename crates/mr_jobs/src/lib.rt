@@ -24,8 +24,6 @@ mod round;
 mod rounds;
 mod shared;
 mod string_match;
-#[cfg(test)]
-mod tests;
 mod word_count;
 mod workers;
 

@@ -9,9 +9,9 @@ ghost use Rattle.mr_defs.specs.Tasks.{spans_of};
 ghost use Rattle.mr_items.specs.LinearRegression as items;
 ghost use Rattle.mr_jobfile.specs.Seen.{seen};
 ghost use Rattle.mr_jobs.specs.Ending.{ended_by};
-ghost use Rattle.mr_jobs.specs.JobEnding.{inside_of, is_shared, job_ending, regression_ending};
-ghost use Rattle.mr_jobs.specs.LawfulReport.{IsLawfulReport};
+ghost use Rattle.mr_jobs.specs.JobEnding.{inside_of, is_shared, regression_ending};
 ghost use Rattle.mr_jobs.specs.Meets.{IsOfInputs, MeetsSeen, texted};
+ghost use Rattle.mr_jobs.specs.Outputs.{IsJobOutput};
 ghost use Rattle.mr_jobs.specs.RoundOf.{IsRoundOfSpans};
 ghost use Rattle.mr_jobs.specs.Shares.{AreOnlyRound};
 ghost use Rattle.mr_report.specs.Shown.{rounds_seen};
@@ -112,9 +112,7 @@ pub(crate) fn linear_regression<T: Threads + Sync, G: Gate + Sync>(
     requires kind { job.now.job ≡ kind.LinearRegression }
     requires count { length inputs.now ≡ 1 }
     requires short { All (λ bytes. length bytes ≤ input_limit) inputs.now }
-    ensures ending { MeetsSeen (λ o. o.text) (job_ending (seen job.now) inputs.now) result }
-    ensures of_inputs { IsOfInputs result }
-    ensures shares { IfOk result (λ o. IsLawfulReport (seen job.now) inputs.now workers.now.count (rounds_seen o.rounds.items)) }
+    ensures { IsJobOutput (seen job.now) inputs.now workers.now.count result }
 {
     match grid_input(workers, inputs, 0) {
         Ok(grid) => line_through(workers, job, &grid),

@@ -9,9 +9,9 @@ ghost use Rattle.mr_items.specs.Grid.{columns_of};
 ghost use Rattle.mr_items.specs.MatrixProduct.{is_product_shape, matrix_product_emits, matrix_product_emissions};
 ghost use Rattle.mr_items.specs.Texts.{rows_text};
 ghost use Rattle.mr_jobfile.specs.Seen.{seen};
-ghost use Rattle.mr_jobs.specs.JobEnding.{inside_of, is_shared, job_ending, number_keys, product_ending};
-ghost use Rattle.mr_jobs.specs.LawfulReport.{IsLawfulReport};
+ghost use Rattle.mr_jobs.specs.JobEnding.{inside_of, is_shared, number_keys, product_ending};
 ghost use Rattle.mr_jobs.specs.Meets.{IsOfInputs, MeetsSeen};
+ghost use Rattle.mr_jobs.specs.Outputs.{IsJobOutput};
 ghost use Rattle.mr_jobs.specs.RoundOf.{IsRoundOfTasks};
 ghost use Rattle.mr_jobs.specs.Shares.{AreOnlyRound};
 ghost use Rattle.mr_report.specs.Shown.{rounds_seen};
@@ -130,9 +130,7 @@ pub(crate) fn matrix_product<T: Threads + Sync, G: Gate + Sync>(
     requires kind { job.now.job ≡ kind.MatrixProduct }
     requires count { length inputs.now ≡ 2 }
     requires short { All (λ bytes. length bytes ≤ input_limit) inputs.now }
-    ensures ending { MeetsSeen (λ o. o.text) (job_ending (seen job.now) inputs.now) result }
-    ensures of_inputs { IsOfInputs result }
-    ensures shares { IfOk result (λ o. IsLawfulReport (seen job.now) inputs.now workers.now.count (rounds_seen o.rounds.items)) }
+    ensures { IsJobOutput (seen job.now) inputs.now workers.now.count result }
 {
     let left = match grid_input(workers, inputs, 0) {
         Ok(left) => left,

@@ -5,9 +5,10 @@ ghost use Rattle.mr_defs.specs.Limits.{greatest_element, input_limit};
 ghost use Rattle.mr_items.specs.Grid.{columns_of};
 ghost use Rattle.mr_items.specs.Pca.{column_emits, column_emissions, pca_emissions, pca_next, spread_emits, spread_emissions};
 ghost use Rattle.mr_jobfile.specs.Seen.{seen};
-ghost use Rattle.mr_jobs.specs.JobEnding.{inside_of, is_shared, job_ending, pca_ending};
+ghost use Rattle.mr_jobs.specs.JobEnding.{inside_of, is_shared, pca_ending};
 ghost use Rattle.mr_jobs.specs.LawfulReport as report;
 ghost use Rattle.mr_jobs.specs.Meets.{IsOfInputs, MeetsSeen};
+ghost use Rattle.mr_jobs.specs.Outputs.{IsJobOutput};
 ghost use Rattle.mr_jobs.specs.Passes.{IsPassOver};
 ghost use Rattle.mr_jobs.specs.RoundOf.{IsRoundOfSpans};
 ghost use Rattle.mr_numeric.specs.Grids.{IsEven};
@@ -18,7 +19,7 @@ use crate::output::Output;
 use crate::phases::Round;
 use crate::refusal::Refusal;
 use crate::round::number_round;
-use crate::rounds::{Outcome, Rounds, run_rounds};
+use crate::rounds::{Rounds, Sequel, run_rounds};
 use crate::workers::Workers;
 use mr_base::{Fault, Memory, NumKey, Rows, Stop};
 use mr_capacity::CombinerKind;
@@ -133,16 +134,16 @@ impl<'a> Rounds for Columns<'a> {
 
     ghost next = { λ c s rows. pca_next c.grid.now s rows };
 
-    fn outcome(
+    fn sequel(
         &self,
         alloc: Global,
         state: &Pass,
         rows: &Rows<NumKey>,
-    ) -> Result<Outcome<Pass>, Memory> {
+    ) -> Result<Sequel<Pass>, Memory> {
         let points = self.grid.rows();
         match &state.means {
-            Some(means) => Ok(Outcome::Ended(pca_text(alloc, points, means, rows)?)),
-            None => Ok(Outcome::Again(Pass {
+            Some(means) => Ok(Sequel::Ended(pca_text(alloc, points, means, rows)?)),
+            None => Ok(Sequel::Again(Pass {
                 means: Some(column_means(alloc, rows, points)?),
             })),
         }
@@ -185,9 +186,7 @@ pub(crate) fn pca<T: Threads + Sync, G: Gate + Sync>(
     requires kind { job.now.job ≡ kind.Pca }
     requires count { length inputs.now ≡ 1 }
     requires short { All (λ bytes. length bytes ≤ input_limit) inputs.now }
-    ensures ending { MeetsSeen (λ o. o.text) (job_ending (seen job.now) inputs.now) result }
-    ensures of_inputs { IsOfInputs result }
-    ensures shares { IfOk result (λ o. report.IsLawfulReport (seen job.now) inputs.now workers.now.count (rounds_seen o.rounds.items)) }
+    ensures { IsJobOutput (seen job.now) inputs.now workers.now.count result }
 {
     match grid_input(workers, inputs, 0) {
         Ok(grid) => passes(workers, job, &grid),

@@ -8,7 +8,7 @@ ghost use Rattle.mr_defs.specs.Tasks.{spans_of};
 ghost use Rattle.mr_jobs.specs.Ending.{ended_by};
 ghost use Rattle.mr_jobs.specs.JobEnding.{inside_of};
 ghost use Rattle.mr_jobs.specs.Meets.{IsOfInputs, MeetsSeen, texted};
-ghost use Rattle.mr_jobs.specs.Outcomes.{LeadsTo, next_of};
+ghost use Rattle.mr_jobs.specs.Sequels.{LeadsTo, next_of};
 ghost use Rattle.mr_jobs.specs.RoundOf.{IsRoundOfSpans};
 ghost use Rattle.mr_jobs.specs.Shares.{AreLawfulRounds, IsSpanRound, task_at};
 ghost use Rattle.mr_report.specs.Shown.{rounds_seen, workers_of};
@@ -26,7 +26,7 @@ use std::thread::Threads;
 
 /// What a round leads to: another round, in this state, or the text of the job.
 #[derive(Drop)]
-pub(crate) enum Outcome<S> {
+pub(crate) enum Sequel<S> {
     Again(S),
     Ended(Text),
 }
@@ -56,12 +56,12 @@ pub(crate) trait Rounds {
     ghost next: { Self → Self.State → List (Row ℕ) → Next Self.State };
 
     /// What the rows of a round in a state lead to.
-    fn outcome(
+    fn sequel(
         &self,
         alloc: Global,
         state: &Self::State,
         rows: &Rows<NumKey>,
-    ) -> Result<Outcome<Self::State>, Memory>
+    ) -> Result<Sequel<Self::State>, Memory>
         requires fits { fits self.now state.now }
         requires rows { (inside : ℕ → Bool) × (round_of nat_cmp inside false folded (emissions self.now state.now) ≡ Ok rows.now) }
         ensures next { IfOk result (λ o. next_of o ≡ next self.now state.now rows.now) }
@@ -100,7 +100,7 @@ fn step<
     rounds: &R,
     round: &F,
     state: &R::State,
-) -> Result<(Outcome<R::State>, Few<Share>), Stop<Refusal>>
+) -> Result<(Sequel<R::State>, Few<Share>), Stop<Refusal>>
     requires fits { R.fits rounds.now state.now }
     requires may { (s : Bor R.State) → R.fits rounds.now s.now → F.pre round.now s }
     requires gives { (s : Bor R.State) (r : _) → R.fits rounds.now s.now → F.post round.now s r
@@ -116,8 +116,8 @@ fn step<
     match one_round(workers, job, rounds, round, state) {
         Ok(Round { lists, shares }) => {
             let rows = merge_all(workers.rt, workers.alloc, lists)?;
-            let outcome = rounds.outcome(workers.alloc, state, &rows)?;
-            Ok((outcome, shares))
+            let sequel = rounds.sequel(workers.alloc, state, &rows)?;
+            Ok((sequel, shares))
         }
         Err(Stop::Refused(fault)) => Err(Stop::Refused(refused_fault(workers.alloc, &fault)?)),
         Err(Stop::Memory) => Err(Stop::Memory),
@@ -160,15 +160,15 @@ pub(crate) fn run_rounds<
     let mut report = Few::with_room(workers.alloc, 0)?;
     let mut state = first;
     for _ in 0..most {
-        let (outcome, shares) = match step(workers, job, rounds, &round, &state) {
+        let (sequel, shares) = match step(workers, job, rounds, &round, &state) {
             Ok(led) => led,
             Err(stop) => return Err(stop),
         };
         report.room()?;
         report.push(shares);
-        match outcome {
-            Outcome::Again(next) => state = next,
-            Outcome::Ended(text) => {
+        match sequel {
+            Sequel::Again(next) => state = next,
+            Sequel::Ended(text) => {
                 return Ok(Output {
                     text,
                     rounds: report,

@@ -1,4 +1,4 @@
-use Rattle.std.proofs.Common.{[], length, sym, subst}
+use Rattle.std.proofs.Common.{rules, length, sym, subst}
 use Rattle.std.specs.Prelude.{IfOk}
 use Rattle.std.specs.List.{range_with_len}
 use Rattle.std.specs.Ordering.{nat_cmp}
@@ -14,12 +14,17 @@ use Rattle.mr_jobs.proofs.Reports.{report_of}
 use Rattle.mr_report.specs.Shown.{rounds_seen}
 use Rattle.mr_jobs.proofs.linear_regression.linear_regression.Goals as goal
 
-pub returns-in-Ok-clause-shares : goal.returns-in-Ok-clause-shares
-returns-in-Ok-clause-shares g c =
+pub returns-in-Ok : goal.returns-in-Ok
+returns-in-Ok g c =
     let job = c.args.job.now in
     let workers = c.args.workers.now.count in
-    report_of (seen job) c.args.inputs.now workers kind.LinearRegression c.line_through.result c.requires.kind
-    (subst (λ read. IfOk c.line_through.result (λ (o : Output). OfGrid
-    (λ grid. AreOnlyRound nat_cmp (inside_of job.container job.capacity) workers
-    (linear_regression_emits grid) (range_with_len 0 (length grid)) (spans_of job.chunk (length grid)) (rounds_seen o.rounds.items)) read))
-    (sym c.in-Ok.ensures.read) c.line_through.ensures.shares)
+    record {
+      ending = search rules;
+      of_inputs = c.line_through.ensures.of_inputs;
+      shares = report_of (seen job) c.args.inputs.now workers kind.LinearRegression c.line_through.result c.requires.kind
+          (subst (λ read. IfOk c.line_through.result (λ (o : Output). OfGrid
+          (λ grid. AreOnlyRound nat_cmp (inside_of job.container job.capacity) workers
+          (linear_regression_emits grid) (range_with_len 0 (length grid)) (spans_of job.chunk (length grid))
+          (rounds_seen o.rounds.items)) read))
+          (sym c.in-Ok.ensures.read) c.line_through.ensures.shares);
+    }

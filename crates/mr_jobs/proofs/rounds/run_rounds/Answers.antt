@@ -1,7 +1,7 @@
 use Rattle.std.proofs.Common.{◌≡◌, ◌∙◌, ◌∷◌, ◌++◌, [], List, Ok, ap, decimal, subst}
 use Rattle.std.proofs.lemmas.List.{map-append}
 use Rattle.mr_base.specs.Spare.{Spared}
-use Rattle.mr_jobs.specs.Outcomes.{LeadsTo, next_of}
+use Rattle.mr_jobs.specs.Sequels.{LeadsTo, next_of}
 use Rattle.mr_jobs.proofs.Repeated.{all_shares, last_shares, last_stop, last_text, one_more}
 use Rattle.mr_report.specs.Shown.{rounds_seen, workers_of}
 use Rattle.mr_report.specs.declared.printing.Share.{Share}

@@ -7,7 +7,7 @@ use Rattle.mr_items.specs.Pca.{column_means, pca_emissions}
 use Rattle.mr_jobs.proofs.PassRows.{column_ones, column_sums, means_count, product_sums, some_points}
 use Rattle.mr_jobs.specs.Passes.{pass_of}
 use Rattle.mr_numeric.specs.Sums.{IsColumnSum}
-use Rattle.mr_jobs.proofs.pca.ColumnsRounds.outcome.Goals as goal
+use Rattle.mr_jobs.proofs.pca.ColumnsRounds.sequel.Goals as goal
 
 pub pca_text-requires-clause-sums : goal.pca_text-requires-clause-sums
 pca_text-requires-clause-sums c =

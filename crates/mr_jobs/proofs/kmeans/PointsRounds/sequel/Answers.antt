@@ -4,7 +4,7 @@ use Rattle.mr_items.specs.KMeans.{KMeansState}
 use Rattle.mr_jobs.proofs.ClustersMoved.{clusters}
 use Rattle.mr_numeric.proofs.ClusterRows.{have_points}
 use Rattle.mr_numeric.specs.Sums.{AreMeans}
-use Rattle.mr_jobs.proofs.kmeans.PointsRounds.outcome.Goals as goal
+use Rattle.mr_jobs.proofs.kmeans.PointsRounds.sequel.Goals as goal
 
 pub next_means-requires : goal.next_means-requires
 next_means-requires c =
