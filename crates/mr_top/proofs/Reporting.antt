@@ -9,7 +9,7 @@ use Rattle.mr_command.specs.declared.command.Mode.TheVariants as mode
 use Rattle.mr_command.specs.Form.{Form, form}
 use Rattle.mr_jobfile.specs.Values.{SeenJob}
 use Rattle.mr_top.specs.declared.halt.Halt.{Halt}
-use Rattle.mr_top.specs.declared.outcome.Outcome.{Outcome}
+use Rattle.mr_top.specs.declared.finished.Finished.{Finished}
 use Rattle.mr_top.specs.Reports.{IsOfCommand, IsOfJobReport, IsOfWords, Reports, reports, reports_in}
 use Rattle.mr_top.specs.RunEnding.{job_at}
 use Rattle.mr_top.specs.Stages.{ComesTo, Contents}
@@ -45,7 +45,7 @@ module _ (contents : Option Contents) (f : Form) (j : SeenJob) where
       (λ rounds given. (j, comes, subst (λ m. IsOfJobReport contents m f.inputs j f.workers rounds) (sym is) given)) r)
 
   -- and where the job ran on inputs
-  pub run_reports : (after : Option Contents) (job : List ℕ) (names : List (List ℕ)) (workers : ℕ) (r : Result Outcome Halt)
+  pub run_reports : (after : Option Contents) (job : List ℕ) (names : List (List ℕ)) (workers : ℕ) (r : Result Finished Halt)
       → after ≡ contents → f.mode ≡ mode.Run
       → job ≡ f.job → names ≡ f.inputs → workers ≡ f.workers → ComesTo contents (job_at job) (Ok j)
       → IfOk r (λ o. Reports f.report (IsOfJobReport after mode.Run names j workers) o.report)
@@ -58,7 +58,7 @@ module _ (contents : Option Contents) (f : Form) (j : SeenJob) where
       (subst (λ names. Reports f.report (IsOfJobReport after mode.Run names j workers) o.report) same_names given)))
 
 -- rounds of a command are those of the words that ask for it
-pub words_reports : (contents : Option Contents) (words : List (List ℕ)) (f : Form) (r : Result Outcome Halt) → form words ≡ Some f
+pub words_reports : (contents : Option Contents) (words : List (List ℕ)) (f : Form) (r : Result Finished Halt) → form words ≡ Some f
     → IfOk r (λ o. Reports (reports_in f.mode f.report) (IsOfCommand contents f) o.report)
     → IfOk r (λ o. Reports (reports words) (IsOfWords contents words) o.report)
 words_reports contents words f (Err h) is given = tt

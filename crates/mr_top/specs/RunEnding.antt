@@ -37,14 +37,14 @@ abbrev pub bytes_at : List ℕ → ℕ → Stage (Option (List ℕ))
 bytes_at name limit content = option_map_or (λ bytes. Ok (within limit bytes)) (content name) read_fault
 
 -- the job that a reading gives, or the refusal of its fault
-abbrev pub judged : Result SeenJob JobFault → Ended SeenJob
-judged (Ok j) = Ok j
-judged (Err f) = refused status.Job (job_line f)
+abbrev pub job_end : Result SeenJob JobFault → Ended SeenJob
+job_end (Ok j) = Ok j
+job_end (Err f) = refused status.Job (job_line f)
 
 -- the job of a file, none of one that is too long
 abbrev pub job_in : Option (List ℕ) → Ended SeenJob
-job_in None = judged (Err fault.TooLong)
-job_in (Some bytes) = judged (job_of bytes)
+job_in None = job_end (Err fault.TooLong)
+job_in (Some bytes) = job_end (job_of bytes)
 
 abbrev pub job_at : List ℕ → Stage SeenJob
 job_at name = followed (bytes_at name job_limit) (λ read content. job_in read)

@@ -1,22 +1,28 @@
 use mr_outside::Gate;
 use std::sync::atomic::{AtomicU64, Ordering};
+use std::thread;
 
-// How often a gate looks before it lets a task go on.
+// How often a gate looks before it lets a task go on, and how often it lets others go on meanwhile.
 const LOOKS: u64 = 100000000;
 
-/// A gate that notes who took each of four tasks, and the order in which the calls came; it may hold task 0 until task 1 has begun.
+const TURN: u64 = 64;
+
+/// A gate that notes who took each of four tasks, and the order in which the calls came; it may hold the tasks 0 and 1 until the other has
+/// begun.
 #[derive(Drop)]
 pub struct NotingGate {
-    holds: bool,
+    held: u32,
+    late: AtomicU64,
     calls: AtomicU64,
     tasks: [AtomicU64; 4],
 }
 
 impl NotingGate {
-    /// A gate that holds task 0 where this is told.
-    pub fn new(holds: bool) -> NotingGate {
+    /// A gate that holds no task, task 0 alone, or the tasks 0 and 1: as many as are told.
+    pub fn new(held: u32) -> NotingGate {
         NotingGate {
-            holds,
+            held,
+            late: AtomicU64::new(0),
             calls: AtomicU64::new(0),
             tasks: [
                 AtomicU64::new(0),
@@ -25,6 +31,24 @@ impl NotingGate {
                 AtomicU64::new(0),
             ],
         }
+    }
+
+    /// Whether each task that was held went on because the other had begun.
+    pub fn in_time(&self) -> bool {
+        self.late.load(Ordering::SeqCst) == 0
+    }
+
+    // Holds a task until this one has begun, or for as long as it looks.
+    fn hold_for(&self, other: usize) {
+        for look in 0..LOOKS {
+            if self.note(other) != 0 {
+                return;
+            }
+            if look % TURN == 0 {
+                thread::yield_now();
+            }
+        }
+        self.late.fetch_add(1, Ordering::SeqCst);
     }
 
     /// What is noted of a task: the number of the call, from 1, and the worker that it came from, as one number. It is 0 where there was no
@@ -58,12 +82,8 @@ impl Gate for NotingGate {
         if task < 4 {
             self.tasks[task as usize].store(noted(call, worker as u64), Ordering::SeqCst);
         }
-        if self.holds && task == 0 {
-            for _ in 0..LOOKS {
-                if self.note(1) != 0 {
-                    break;
-                }
-            }
+        if task < self.held && task < 2 {
+            self.hold_for(1 - task as usize);
         }
     }
 }

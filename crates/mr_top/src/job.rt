@@ -4,7 +4,7 @@ ghost use Rattle.mr_jobfile.specs.Seen.{seen};
 ghost use Rattle.mr_jobs.specs.Meets.{MeetsSeen};
 ghost use Rattle.mr_outside.specs.Shelf.{HasContent};
 ghost use Rattle.mr_top.specs.Halts.{Halts, IsOfJob, IsPastWords, HasJobStatus};
-ghost use Rattle.mr_top.specs.RunEnding.{job_at, job_in, judged};
+ghost use Rattle.mr_top.specs.RunEnding.{job_at, job_in, job_end};
 ghost use Rattle.mr_top.specs.Stages.{ComesTo};
 
 use crate::halt::Halt;
@@ -20,7 +20,7 @@ const LIMIT: u64 = 65536;
 
 /// The refusal of a job file with this fault.
 pub fn refused(alloc: Global, fault: &JobFault) -> Result<Refusal, Memory>
-    ensures fault { IfOk result (λ r. judged (Err fault.now) ≡ Err r) }
+    ensures fault { IfOk result (λ r. job_end (Err fault.now) ≡ Err r) }
     ensures status { IfOk result (λ r. r.status ≡ status.Job) }
 {
     let line = fault_text(alloc, fault)?;

@@ -8,13 +8,13 @@
 //! gains nothing; a read or a write fault comes only where a count rose, or a name isn't there. Want of memory alone is free.
 #![tactic(auto)]
 
+mod finished;
 #[cfg(test)]
 mod gates;
 mod halt;
 mod inputs;
 mod job;
 mod modes;
-mod outcome;
 mod reading;
 #[cfg(test)]
 mod report_tests;

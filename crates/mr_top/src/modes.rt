@@ -16,10 +16,10 @@ ghost use Rattle.mr_top.specs.Reports.{IsOfCommand, IsOfJobReport, Reports, repo
 ghost use Rattle.mr_top.specs.RunEnding.{commanded, generated_run, generated_text, ran, reads_inputs};
 ghost use Rattle.mr_top.specs.Stages.{ComesTo};
 
+use crate::finished::{Finished, finished_check, finished_job};
 use crate::halt::Halt;
 use crate::inputs::take_inputs;
 use crate::job::{refused, take_job};
-use crate::outcome::{Outcome, check_outcome, job_outcome};
 use mr_base::{Stop, Word};
 use mr_capacity::JobKind;
 use mr_command::{Command, Mode};
@@ -53,7 +53,7 @@ fn ran<T: Threads + Sync, G: Gate + Sync, H: Shelf>(
     job: &Job,
     names: &[Word],
     asked: bool,
-) -> Result<Outcome, Halt>
+) -> Result<Finished, Halt>
     ensures later { H.count shelf.old ≤ H.count shelf.new }
     ensures ok { IfOk result (λ o. ComesTo (H.contents shelf.old) (ran (seen job.now) names.now) (Ok o.text)) }
     ensures err { IfErr result (λ h. Halts h (H.contents shelf.old) (ran (seen job.now) names.now) (H.count shelf.old)
@@ -64,8 +64,8 @@ fn ran<T: Threads + Sync, G: Gate + Sync, H: Shelf>(
 {
     let inputs = take_inputs(workers.alloc, shelf, job.job, names)?;
     let output = on_inputs(workers, job, &inputs)?;
-    let outcome = job_outcome(workers.alloc, asked, output)?;
-    Ok(outcome)
+    let finished = finished_job(workers.alloc, asked, output)?;
+    Ok(finished)
 }
 
 // The text of this seed with so many words, for the count of words alone.
@@ -106,7 +106,7 @@ pub fn commanded<T: Threads + Sync, G: Gate + Sync, H: Shelf>(
     workers: &Workers<T, G>,
     command: &Command,
     shelf: &mut H,
-) -> Result<Outcome, Halt>
+) -> Result<Finished, Halt>
     requires within { IsWithin command.now.mode }
     requires workers { workers.now.count ≡ command.now.workers }
     ensures ok { IfOk result (λ o. ComesTo (H.contents shelf.old) (commanded (asked command.now)) (Ok o.text)) }
@@ -124,10 +124,10 @@ pub fn commanded<T: Threads + Sync, G: Gate + Sync, H: Shelf>(
     let job = take_job(workers.alloc, shelf, command.job.as_str())?;
     match command.mode {
         Mode::Run => ran(workers, shelf, &job, &command.inputs, command.report),
-        Mode::Check => Ok(check_outcome(workers.alloc)?),
+        Mode::Check => Ok(finished_check(workers.alloc)?),
         Mode::Generate { seed, count } => {
             let output = on_generated(workers, &job, seed, count)?;
-            Ok(job_outcome(workers.alloc, command.report, output)?)
+            Ok(finished_job(workers.alloc, command.report, output)?)
         }
     }
 }

@@ -31,17 +31,48 @@ fn noted_report(alloc: Global, gate: &NotingGate) -> Result<Text, Memory> {
 #[test]
 fn reports_name_what_each_worker_did(rt: HostRuntime) -> Result<(), Fail> {
     let alloc = rt.alloc();
-    for (queue, holds) in [("blocks", false), ("ranges", true), ("deques", true)] {
+    for (queue, held) in [("blocks", 0), ("ranges", 1), ("deques", 1)] {
         let job = format!(in alloc; "{WORDS}chunk = 1\nqueue = \"{queue}\"\n")?;
-        let gate = NotingGate::new(holds);
+        let gate = NotingGate::new(held);
         let words = ["mapred", "--workers", "2", "--report", "W", "in"];
         let (status, _, err) = ran(&rt, alloc, job.as_str(), "a b ", &words, &gate)?;
         assert!(rt; status == Status::Done, "{queue}");
         let wanted = noted_report(alloc, &gate)?;
         assert!(rt; err.bytes() == wanted.as_bytes(), "{queue}");
         let apart = gate.note(0) % 64 != gate.note(1) % 64;
-        assert!(rt; apart || !holds, "{queue}");
+        assert!(rt; apart || held == 0, "{queue}");
+        assert!(rt; gate.in_time(), "{queue}");
     }
+    Ok(())
+}
+
+// Two tasks that wait for each other end where two workers run beside each other.
+#[test]
+fn two_tasks_at_once(rt: HostRuntime) -> Result<(), Fail> {
+    let alloc = rt.alloc();
+    for queue in ["blocks", "ranges", "deques"] {
+        let job = format!(in alloc; "{WORDS}chunk = 1\nqueue = \"{queue}\"\n")?;
+        let gate = NotingGate::new(2);
+        let words = ["mapred", "--workers", "2", "W", "in"];
+        let (status, out, _) = ran(&rt, alloc, job.as_str(), "a ", &words, &gate)?;
+        assert!(rt; status == Status::Done, "{queue}");
+        assert!(rt; out.bytes() == b"a 1\n".as_slice(), "{queue}");
+        assert!(rt; gate.in_time(), "{queue}");
+    }
+    Ok(())
+}
+
+// Under blocks no worker takes a task of another's queue: task 0 waits in vain for the one behind it.
+#[test]
+fn blocks_keep_to_their_queues(rt: HostRuntime) -> Result<(), Fail> {
+    let alloc = rt.alloc();
+    let job = format!(in alloc; "{WORDS}chunk = 1\nqueue = \"blocks\"\n")?;
+    let gate = NotingGate::new(1);
+    let words = ["mapred", "--workers", "2", "W", "in"];
+    let (status, out, _) = ran(&rt, alloc, job.as_str(), "a b ", &words, &gate)?;
+    assert!(rt; status == Status::Done);
+    assert!(rt; out.bytes() == b"a 1\nb 1\n".as_slice());
+    assert!(rt; !gate.in_time());
     Ok(())
 }
 
@@ -72,7 +103,7 @@ fn reports_of_runs(rt: HostRuntime) -> Result<(), Fail> {
     ];
     let job = format!(in alloc; "{WORDS}chunk = 1\nqueue = \"blocks\"\n")?;
     for (input, words, lines) in cases {
-        let gate = NotingGate::new(false);
+        let gate = NotingGate::new(0);
         let (status, _, err) = ran(&rt, alloc, job.as_str(), input, words, &gate)?;
         assert!(rt; status == Status::Done, "{words:?}");
         assert!(rt; err.bytes() == lines.as_bytes(), "{words:?}");
@@ -98,7 +129,7 @@ fn reports_of_rounds(rt: HostRuntime) -> Result<(), Fail> {
     for (lines, input, wanted) in cases {
         let job = format!(in alloc; "version = 1\n{lines}")?;
         let words = ["mapred", "--report", "W", "in"];
-        let gate = NotingGate::new(false);
+        let gate = NotingGate::new(0);
         let (status, _, err) = ran(&rt, alloc, job.as_str(), input, &words, &gate)?;
         assert!(rt; status == Status::Done, "{lines}");
         assert!(rt; err.bytes() == wanted.as_bytes(), "{lines}");
@@ -120,7 +151,7 @@ fn long_generated_text(rt: HostRuntime) -> Result<(), Fail> {
             "0",
             "1000000",
         ];
-        let (status, out, _) = ran(&rt, alloc, WORDS, "", &words, &NotingGate::new(false))?;
+        let (status, out, _) = ran(&rt, alloc, WORDS, "", &words, &NotingGate::new(0))?;
         assert!(rt; status == Status::Done);
         let lines = b"input 5777761\nrows 5000\noutput 48890\nmark 62777834934\n";
         assert!(rt; out.bytes() == lines.as_slice(), "{workers}");

@@ -16,6 +16,7 @@ const LINE_JOBS: &str = "\
 the cat the dog|0|cat 1;dog 1;the 2;
 aa bb|0|aa 1;bb 1;
 Don't DON'T|0|don't 2;
+b abcdefghz abcdefgh abcdefgha|0|abcdefgh 1;abcdefgha 1;abcdefghz 1;b 1;
 #job='word_count';container='hash';capacity=1024;combiner='sum';chunk=1;queue='ranges';
 the cat the dog|0|cat 1;dog 1;the 2;
 #job='word_count';container='hash';capacity=1024;combiner='sum';chunk=1;queue='deques';
@@ -35,6 +36,8 @@ a 1 2;|4|fault: input 1 malformed at 0;
 A 1;a 1;|0|A 1;a 1;
 é 7;|0|é 7;
 a 9223372036854775808;|4|fault: input 1 malformed at 0;
+#job='fold_lines';container='hash';capacity=16;combiner='sum';keys='bytes';chunk=1;queue='blocks';
+m 3;b -4;zz 1;a 9;b 5;z 0;|0|a 9;b 1;m 3;z 0;zz 1;
 #job='fold_lines';container='hash';capacity=16;combiner='buffer';reducer='median';keys='bytes';
 k 9;k 1;k 5;k 3;|0|k 3;
 k 5;k 3;|0|k 3;
@@ -66,6 +69,8 @@ k 5;k 3;|0|k 6;
 007 1;7 2;|0|7 3;
 -1 5;|4|fault: input 1 malformed at 0;
 40 1;x;|4|fault: input 1 malformed at 5;
+#job='fold_lines';container='hash';capacity=16;combiner='sum';keys='numbers';chunk=1;
+7 9223372036854775807;5 9223372036854775807;6 1;5 1;7 -1;|7|fault: over 5;
 #job='fold_lines';container='hash';capacity=16;combiner='min';keys='numbers';
 40 1;16 -1;40 -7;|0|16 -1;40 -7;
 99999999999999999999 1;|4|fault: input 1 malformed at 0;
@@ -195,7 +200,7 @@ fn holds<R: Threads + Sync>(
     };
     let wanted = plain(alloc, wanted)?;
     let inputs = plain(alloc, inputs)?;
-    let gate = NotingGate::new(false);
+    let gate = NotingGate::new(0);
     let (status, out, err) = match inputs.as_str().split_once('&') {
         Some((one, two)) => {
             let words = ["mapred", "--workers", workers, "W", "in", "two"];
@@ -306,7 +311,7 @@ fn pixels_of_a_bitmap(rt: HostRuntime) -> Result<(), Fail> {
             "version = 1\njob = \"histogram\"\ncontainer = \"array\"\ncapacity = {capacity}\ncombiner = \"sum\"\n"
         )?;
         let words = ["mapred", "W", "in"];
-        let gate = NotingGate::new(false);
+        let gate = NotingGate::new(0);
         let (status, out, err) = ran_on(&rt, alloc, job.as_str(), (input, b""), &words, &gate)?;
         assert!(rt; status == wanted, "{text}");
         let held = if status == Status::Done { out } else { err };

@@ -7,9 +7,9 @@ ghost use Rattle.mr_top.specs.Reports.{IsOfWords, Reports, reports};
 ghost use Rattle.mr_top.specs.RunEnding.{reads_inputs, run_ending, status_of};
 ghost use Rattle.mr_top.specs.Stages.{ComesTo, Contents};
 
+use crate::finished::{Finished, written};
 use crate::halt::Halt;
 use crate::modes::commanded;
-use crate::outcome::{Outcome, written};
 use mr_base::{Status, Stop, Word};
 use mr_command::read_command;
 use mr_jobs::Workers;
@@ -18,13 +18,13 @@ use std::alloc::Global;
 use std::thread::Threads;
 
 // Does what the words ask, up to the first write.
-fn judged<T: Threads + Sync, H: Shelf, G: Gate + Sync>(
+fn carried_out<T: Threads + Sync, H: Shelf, G: Gate + Sync>(
     rt: &T,
     alloc: Global,
     words: &[Word],
     shelf: &mut H,
     gate: &G,
-) -> Result<Outcome, Halt>
+) -> Result<Finished, Halt>
     ensures ok { IfOk result (λ o. ComesTo (H.contents shelf.old) (run_ending words.now) (Ok o.text)) }
     ensures err { IfErr result (λ h. Halts h (H.contents shelf.old) (run_ending words.now) (H.count shelf.old)
         (H.count shelf.new)) }
@@ -93,8 +93,8 @@ pub fn run<R: Threads + Sync, H: Shelf, O: Sink, E: Sink, G: Gate + Sync>(
     ensures alone { result ≡ Status.Done → IfSome (form words.now) (λ f. reads_inputs f.mode ≡ false
         → ReadAlone (H.contents shelf.old) f.job (H.is_started shelf.new) (H.started shelf.new) (H.place shelf.new)) }
 {
-    match judged(rt, alloc, words, shelf, gate) {
-        Ok(outcome) => written(&outcome, out, err),
+    match carried_out(rt, alloc, words, shelf, gate) {
+        Ok(finished) => written(&finished, out, err),
         Err(halt) => {
             let _ = put_all(err, halt.line());
             halt.status()

@@ -134,7 +134,7 @@ fn words_and_their_answers(rt: HostRuntime) -> Result<(), Fail> {
             WORDS,
             "the cat the dog",
             words,
-            &NotingGate::new(false),
+            &NotingGate::new(0),
         )?;
         assert!(rt; status == wanted, "{words:?}");
         assert!(rt; out.bytes() == text.as_bytes(), "{words:?}");
@@ -180,7 +180,7 @@ fn job_files_and_their_texts(rt: HostRuntime) -> Result<(), Fail> {
             job.as_str(),
             "the cat The dog",
             &["mapred", "W", "in"],
-            &NotingGate::new(false),
+            &NotingGate::new(0),
         )?;
         assert!(rt; status == wanted, "{job}");
         let held = if status == Status::Done { out } else { err };
@@ -194,7 +194,7 @@ fn only_words_are_generated(rt: HostRuntime) -> Result<(), Fail> {
     let job =
         "version = 1\njob = \"fold_lines\"\ncontainer = \"hash\"\ncapacity = 16\ncombiner = \"sum\"\nkeys = \"bytes\"\n";
     let words = ["mapred", "--mode", "generate", "W", "0", "1"];
-    let (status, out, err) = ran(&rt, rt.alloc(), job, "", &words, &NotingGate::new(false))?;
+    let (status, out, err) = ran(&rt, rt.alloc(), job, "", &words, &NotingGate::new(0))?;
     assert!(rt; status == Status::Job);
     assert!(rt; out.bytes().is_empty());
     assert!(rt; err.bytes() == b"fault: job pairing\n".as_slice());
@@ -212,7 +212,7 @@ fn job_file_that_is_too_long(rt: HostRuntime) -> Result<(), Fail> {
         &["mapred", "W", "in"],
         &mut shelf,
         1000,
-        &NotingGate::new(false),
+        &NotingGate::new(0),
     )?;
     assert!(rt; status == Status::Job);
     assert!(rt; err.bytes() == b"fault: job too long\n".as_slice());
@@ -223,7 +223,7 @@ fn job_file_that_is_too_long(rt: HostRuntime) -> Result<(), Fail> {
 fn calls_that_fail(rt: HostRuntime) -> Result<(), Fail> {
     let alloc = rt.alloc();
     let words = ["mapred", "W", "in"];
-    let gate = NotingGate::new(false);
+    let gate = NotingGate::new(0);
     for call in 1..30u64 {
         let mut shelf = shelf_with(alloc, WORDS, "the cat the dog")?;
         shelf.fail_at(call)?;

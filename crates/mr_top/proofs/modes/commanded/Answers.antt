@@ -25,7 +25,7 @@ returns-clause-report g c =
     (subst (λ name. ComesTo (g.H.Shelf.contents c.args.shelf.now) (job_at name)
     (Ok (seen c.in_ok-job.job))) c.as_str.ensures c.in_ok-job.ensures.ok) _
     (reports_given c.args.command.now.report _
-    (rounds_seen c.in_ok-output-in-Generate.output.rounds.items) _ c.in_ok-job_outcome-in-Generate.ensures.report (
+    (rounds_seen c.in_ok-output-in-Generate.output.rounds.items) _ c.in_ok-finished_job-in-Generate.ensures.report (
       _,
       given_comes _ _ _ refl,
       subst (λ n. IsLawfulReport (seen c.in_ok-job.job) (generated c.in-Generate.seed c.in-Generate.count ∷ []) n

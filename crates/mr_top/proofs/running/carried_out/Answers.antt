@@ -5,7 +5,7 @@ use Rattle.mr_top.specs.Stages.{ComesTo, usage}
 use Rattle.mr_top.proofs.Ends.{ending_of_form, ending_without}
 use Rattle.mr_top.proofs.Reporting.{words_reports}
 use Rattle.mr_top.proofs.Stages.{given_comes}
-use Rattle.mr_top.proofs.running.judged.Goals as goal
+use Rattle.mr_top.proofs.running.carried_out.Goals as goal
 
 pub returns-in-Ok-clause-ok : goal.returns-in-Ok-clause-ok
 returns-in-Ok-clause-ok g c =

@@ -12,19 +12,19 @@ use std::alloc::Global;
 
 /// What a run writes that isn't refused: the text, and after it the report, where one is asked for.
 #[derive(Drop)]
-pub struct Outcome {
+pub struct Finished {
     pub text: Text,
     pub report: Option<Text>,
 }
 
-/// The outcome of a job that was checked.
-pub fn check_outcome(alloc: Global) -> Result<Outcome, Memory>
+/// What is written of a job that was checked.
+pub fn finished_check(alloc: Global) -> Result<Finished, Memory>
     ensures text { IfOk result (λ o. o.text ≡ codes "ok\n") }
     ensures report { IfOk result (λ o. o.report ≡ None) }
 {
     let mut text = Text::new(alloc);
     text.push(b"ok\n")?;
-    Ok(Outcome { text, report: None })
+    Ok(Finished { text, report: None })
 }
 
 // The report of these rounds, where it is asked for.
@@ -39,8 +39,8 @@ fn reported(alloc: Global, asked: bool, rounds: &[Few<Share>]) -> Result<Option<
     Ok(Some(report(alloc, rounds)?))
 }
 
-/// The outcome of a job that ran, with the report of its rounds where it is asked for.
-pub fn job_outcome(alloc: Global, asked: bool, output: Output) -> Result<Outcome, Memory>
+/// What is written of a job that ran, with the report of its rounds where it is asked for.
+pub fn finished_job(alloc: Global, asked: bool, output: Output) -> Result<Finished, Memory>
     requires rounds { length output.rounds.items < 2 ^ 31 }
     requires workers { All (λ round. length round.items < 2 ^ 32) output.rounds.items }
     ensures text { IfOk result (λ o. o.text ≡ output.text) }
@@ -48,7 +48,7 @@ pub fn job_outcome(alloc: Global, asked: bool, output: Output) -> Result<Outcome
         ≡ (if asked then Some (report_text (rounds_seen output.rounds.items)) else None)) }
 {
     let report = reported(alloc, asked, output.rounds.as_slice())?;
-    Ok(Outcome {
+    Ok(Finished {
         text: output.text,
         report,
     })
@@ -64,13 +64,13 @@ fn told<E: Sink>(line: &Option<Text>, err: &mut E)
 }
 
 /// Writes the text whole and then the report, or the line of the fault where the text can't be.
-pub fn written<O: Sink, E: Sink>(outcome: &Outcome, out: &mut O, err: &mut E) -> Status
-    ensures { Writes result outcome.now.text outcome.now.report (O.held out.old) (O.held out.new) (O.count out.old) (O.count out.new)
+pub fn written<O: Sink, E: Sink>(finished: &Finished, out: &mut O, err: &mut E) -> Status
+    ensures { Writes result finished.now.text finished.now.report (O.held out.old) (O.held out.new) (O.count out.old) (O.count out.new)
         (E.held err.old) (E.held err.new) (E.count err.old) (E.count err.new) }
 {
-    match put_all(out, outcome.text.as_bytes()) {
+    match put_all(out, finished.text.as_bytes()) {
         Ok(()) => {
-            told(&outcome.report, err);
+            told(&finished.report, err);
             Status::Done
         }
         Err(_) => {
