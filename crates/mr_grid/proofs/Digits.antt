@@ -1,45 +1,33 @@
 -- The number of some digits, read from the front, and cut at a bound.
-use Rattle.std.proofs.Common.{◌≡◌, ℕ, ◌+◌, ◌-◌, ◌*◌, ◌<◌, ◌≤◌, min, Bool, true, false, ◌&&◌, cond, true≢false, List, [], ◌∷◌, length}
-use Rattle.std.proofs.Common.{nat_le, nat_lt, refl, sym, ap, ◌∙◌, arith, get_or, drop}
+use Rattle.std.proofs.Common.{◌≡◌, ℕ, ◌+◌, ◌-◌, ◌*◌, ◌<◌, min, true, cond, List, [], ◌∷◌, length, nat_le, sym, ap, ◌∙◌, arith, get_or, drop}
 use Rattle.std.specs.Char.{is_ascii_digit, digit_value}
+use Rattle.std.specs.Int.{IsInRange}
 use Rattle.std.specs.List.{take_while}
 use Rattle.std.specs.Str.Parse.{digits_value_after}
-use Rattle.std.proofs.lemmas.Bool.{leb-true, leb-false, le-ltb, lt-ltb}
+use Rattle.std.proofs.lemmas.Bool.{and_parts, leb-true}
 use Rattle.std.proofs.lemmas.List.{at_drop_more}
 use Rattle.std.proofs.lemmas.List.Sums.{take_while-cons}
+use Rattle.std.proofs.lemmas.Str.{digit_value_digit}
 use Rattle.mr_items.specs.Runs.{run_at}
 
 -- the number that these digits make after the number n, or the bound where it is larger
 abbrev pub capped : ℕ → List ℕ → ℕ
 capped n ds = min (digits_value_after 10 n ds) 2147483648
 
-pub after_no_less : (n : ℕ) (ds : List ℕ) → n ≤ digits_value_after 10 n ds
-after_no_less n [] = omega arith
-after_no_less n (d ∷ ds) = omega (arith, after_no_less (n * 10 + digit_value d) ds)
-
 -- what was read so far may be cut at the bound
 capped_cut : (n : ℕ) (ds : List ℕ) → capped (min n 2147483648) ds ≡ capped n ds
-capped_cut n ds = by (nat_le n 2147483648) refl
-  where
-    by : (t : Bool) → nat_le n 2147483648 ≡ t → capped (min n 2147483648) ds ≡ capped n ds
-    by true e = ap (λ m. capped m ds) (let l : n ≤ 2147483648 = leb-true n 2147483648 e in omega arith)
-    by false e = let h : 2147483648 < n = leb-false n 2147483648 e in omega (arith, after_no_less n ds, after_no_less (min n 2147483648) ds)
+capped_cut n [] = omega arith
+capped_cut n (d ∷ ds) =
+    let v = digit_value d in
+    let cut : min (min n 2147483648 * 10 + v) 2147483648 ≡ min (n * 10 + v) 2147483648 = omega arith in
+    sym (capped_cut (min n 2147483648 * 10 + v) ds) ∙ ap (λ m. capped m ds) cut ∙ capped_cut (n * 10 + v) ds
 
-pub left_true : (a b : Bool) → (a && b) ≡ true → a ≡ true
-left_true true b e = refl
-left_true false b e = e
-
-pub right_true : (a b : Bool) → (a && b) ≡ true → b ≡ true
-right_true true b e = e
-right_true false b e = absurd (true≢false (sym e))
+-- a digit lies from 48 to 57
+pub digit_range : (c : ℕ) → is_ascii_digit c ≡ true → IsInRange 48 57 c
+digit_range c e = let both = and_parts (nat_le 48 c) (nat_le c 57) e in (leb-true 48 c both.0, leb-true c 57 both.1)
 
 pub digit_is : (c : ℕ) → is_ascii_digit c ≡ true → digit_value c ≡ c - 48
-digit_is c e =
-    let low : 48 ≤ c = leb-true 48 c (left_true (nat_le 48 c) (nat_le c 57) e) in
-    let high : c ≤ 57 = leb-true c 57 (right_true (nat_le 48 c) (nat_le c 57) e) in
-    λ i. cond (le-ltb c 48 low i) 36
-    (cond (lt-ltb c 58 (omega (arith, high)) i) (c - 48)
-    (cond (nat_lt c 65) 36 (cond (nat_lt c 91) (c - 55) (cond (nat_lt c 97) 36 (cond (nat_lt c 123) (c - 87) 36)))))
+digit_is c e = omega (arith, digit_value_digit c (digit_range c e))
 
 -- one digit more
 pub capped-more : (line : List ℕ) (n m at : ℕ) → at < length line → is_ascii_digit (get_or line at 0) ≡ true

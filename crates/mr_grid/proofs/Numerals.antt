@@ -4,17 +4,17 @@ use Rattle.std.proofs.Common.{nat_le, nat_lt, Some, None, refl, sym, ap, ap₂, 
 use Rattle.std.specs.Char.{is_ascii_digit}
 use Rattle.std.specs.List.{list_all, take_while, prefix_len}
 use Rattle.std.specs.Str.Parse.{digits_value}
-use Rattle.std.proofs.lemmas.Bool.{leb-true, le-leb, lt-leb, lt-ltb, le-ltb, ne_eqb}
+use Rattle.std.proofs.lemmas.Bool.{le-leb, lt-leb, lt-ltb, le-ltb, ne_eqb}
 use Rattle.std.proofs.lemmas.List.Folds.{length-prefix_len}
 use Rattle.mr_defs.specs.Limits.{greatest_element}
 use Rattle.mr_items.specs.Lines.{is_field_byte}
 use Rattle.mr_grid.specs.Fields.{numeral_of}
-use Rattle.mr_grid.proofs.Digits.{left_true}
+use Rattle.mr_grid.proofs.Digits.{digit_range}
 
 -- a digit is a byte of a field
 digit_field : (c : ℕ) → is_ascii_digit c ≡ true → is_field_byte c ≡ true
 digit_field c e =
-    let low : 48 ≤ c = leb-true 48 c (left_true (nat_le 48 c) (nat_le c 57) e) in
+    let low = (digit_range c e).0 in
     ap₂ (λ a b. not a && not b) (ne_eqb c 32 (λ k. absurd (omega arith))) (ne_eqb c 9 (λ k. absurd (omega arith)))
 
 take_one : (k x : ℕ) (xs : List ℕ) → take (1 + k) (x ∷ xs) ≡ x ∷ take k xs

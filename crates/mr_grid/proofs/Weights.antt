@@ -5,13 +5,12 @@ use Rattle.std.specs.Char.{is_ascii_digit}
 use Rattle.std.specs.List.{prefix_len}
 use Rattle.std.specs.Str.Parse.{AllDigits, digits_value}
 use Rattle.std.proofs.Math.Nat.{add-mul, mul_assoc, mul-le-mul_right, one-le-pow, pow-le-pow_right, pow-succ'}
-use Rattle.std.proofs.lemmas.Bool.{cases_lt, leb-true}
+use Rattle.std.proofs.lemmas.Bool.{cases_lt}
 use Rattle.std.proofs.lemmas.Int.Digits.{digits_more, digits_value-lt, digits_value_more}
 use Rattle.std.proofs.lemmas.List.{get_or-drop, get_or-replicate, get_or_past, length-take-le}
 use Rattle.std.proofs.lemmas.List.Sums.{prefix_len-le-length, prefix_len_passes}
 use Rattle.std.proofs.lemmas.Nat.{pow-add}
-use Rattle.mr_grid.proofs.Digits.{digit_is, right_true}
-use Rattle.std.specs.Prelude.{nat_le}
+use Rattle.mr_grid.proofs.Digits.{digit_is, digit_range}
 
 abbrev pub weights : List ℕ
 weights = 10000000 ∷ 1000000 ∷ 100000 ∷ 10000 ∷ 1000 ∷ 100 ∷ 10 ∷ 1 ∷ 0 ∷ 0 ∷ 0 ∷ 0 ∷ 0 ∷ 0 ∷ 0 ∷ 0 ∷ []
@@ -45,11 +44,10 @@ module _ (ds : List ℕ) (n : ℕ) (few : n ≤ 8) (count : n ≡ prefix_len is_
   all_digits zero h = tt
   all_digits (suc m) h =
       let d = digit m (omega (arith, h)) in
-      let most : get_or ds m 0 ≤ 57 = leb-true (get_or ds m 0) 57 (right_true (nat_le 48 (get_or ds m 0)) (nat_le (get_or ds m 0) 57) d) in
       let next : suc m ≡ m + 1 = omega arith in
       subst (λ k. AllDigits 10 (take k ds)) (sym next)
       (digits_more 10 ds m (omega (arith, h, count, prefix_len-le-length is_ascii_digit ds)) (all_digits m (omega (arith, h)))
-      (omega (arith, digit_is (get_or ds m 0) d, most)))
+      (omega (arith, digit_is (get_or ds m 0) d, (digit_range (get_or ds m 0) d).1)))
 
   pub small : (i : ℕ) → so_far ds n i < 100000000
   small i =

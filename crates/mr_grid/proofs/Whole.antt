@@ -6,7 +6,7 @@ use Rattle.std.specs.List.{All, AllByRecursion, cons_option, list_all}
 use Rattle.std.specs.Option.{option_map_or}
 use Rattle.std.specs.Char.{is_ascii_digit}
 use Rattle.std.specs.Str.Parse.{digits_value, starts_with_minus}
-use Rattle.std.proofs.lemmas.Bool.{cases_lt, eqb-true, ltb-true, ltb-false, leb-true}
+use Rattle.std.proofs.lemmas.Bool.{and_parts, cases_lt, eqb-true, ltb-true, ltb-false, leb-true}
 use Rattle.std.proofs.lemmas.List.{length-append, length-map, nil_from_length}
 use Rattle.std.proofs.lemmas.List.Elements.{All-nil, All-cons, All-append, All-same}
 use Rattle.std.proofs.lemmas.Option.{slice_get-get_or}
@@ -20,7 +20,6 @@ use Rattle.mr_items.specs.declared.GridFault.TheVariants as fault
 use Rattle.mr_grid.specs.Dense.{rows_of, IsDense}
 use Rattle.mr_grid.specs.Reading.{fault_from, rows_between, IsRead, IsWidth}
 use Rattle.mr_grid.proofs.Chunks.{columns_is, length-rows_of, rows_of-flat_map, length-flat_map-even}
-use Rattle.mr_grid.proofs.Digits.{right_true}
 use Rattle.mr_grid.proofs.Places.{filter_map-map}
 use Rattle.mr_grid.proofs.Rows.{all_rows, has_fields, rows_few, rows_split}
 
@@ -114,7 +113,7 @@ elements_bounded (t ∷ ts) = by (is_numeral_up_to greatest_element (without_min
     by false e rest = rest
     by true e rest =
         let small = leb-true (digits_value 10 (without_minus t)) greatest_element
-        (right_true (list_all is_ascii_digit (without_minus t)) _ (right_true (nat_lt 0 (length (without_minus t))) _ e)) in
+        (and_parts (list_all is_ascii_digit (without_minus t)) _ (and_parts (nat_lt 0 (length (without_minus t))) _ e).1).1 in
         All-cons Bounded number (filter_map element_of ts)
         (element_bounded (starts_with_minus t) (digits_value 10 (without_minus t)) small) rest
 

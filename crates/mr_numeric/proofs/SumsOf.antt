@@ -6,7 +6,7 @@ use Rattle.std.proofs.Math.IntN.{+ℤ_idl}
 use Rattle.std.proofs.lemmas.Bool.{leb-true}
 use Rattle.std.proofs.lemmas.Int.{ints}
 use Rattle.std.proofs.lemmas.List.Sums.{sum_by-cons}
-use Rattle.mr_defs.specs.Emission.{Emission, Pair, TooLarge}
+use Rattle.mr_defs.specs.Emission.{Pair, TooLarge}
 use Rattle.mr_defs.specs.Folded.{limit, total, magnitude}
 use Rattle.mr_items.specs.MatrixProduct.{sum_emits}
 use Rattle.mr_numeric.specs.Pairs.{sum_of}

@@ -107,7 +107,9 @@ fn texts_of_regressions(rt: HostRuntime) -> Result<(), Fail> {
     let text = regression_text(alloc, &three)?;
     assert!(rt;
         text.as_bytes()
-            == b"n 3\nsx 6\nsy -12\nsxx 9223372036854775807\nsyy 0\nsxy 28\nslope 156/27670116110564327385\nintercept -110680464442257309852/27670116110564327385\n".as_slice()
+            == b"n 3\nsx 6\nsy -12\nsxx 9223372036854775807\nsyy 0\nsxy 28\n\
+slope 156/27670116110564327385\nintercept -110680464442257309852/27670116110564327385\n"
+                .as_slice()
     );
     Ok(())
 }

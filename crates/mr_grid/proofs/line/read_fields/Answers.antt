@@ -1,10 +1,10 @@
 use Rattle.std.proofs.Common.{◌≡◌, ◌≤◌, ◌<◌, ◌+◌, ◌++◌, not, length, sym, ap, ◌∙◌, arith, append-nil}
+use Rattle.std.proofs.lemmas.Bool.{and_parts}
 use Rattle.std.proofs.lemmas.List.{length_push}
 use Rattle.std.proofs.lemmas.List.Sums.{prefix_len-drop_yes}
 use Rattle.mr_items.specs.Grid.{element_of}
 use Rattle.mr_items.specs.Lines.{is_field_byte}
 use Rattle.mr_items.specs.Runs.{begins, run_at, run_places}
-use Rattle.mr_grid.proofs.Digits.{left_true}
 use Rattle.mr_grid.proofs.Elements.{stray_at, elements_at, stray_more, elements_more}
 use Rattle.mr_grid.proofs.Places.{places_below, places_same, places_more, places_fewer, within, gap_nowhere, first_begins, next_begins}
 use Rattle.mr_grid.proofs.Places.{next_nowhere, filter_map-map}
@@ -34,7 +34,7 @@ loop-at-preserved c =
     let longer : at < end = omega (
       arith,
       c.field_at-field.ensures.end,
-      prefix_len-drop_yes is_field_byte line at 0 (omega arith) (left_true _ _ (c.loop-at.invariant.at_field (omega arith))),
+      prefix_len-drop_yes is_field_byte line at 0 (omega arith) (and_parts _ _ (c.loop-at.invariant.at_field (omega arith))).0,
     ) in
     let more = places_more (begins is_field_byte line) at next (omega (arith, longer, c.run_end-at-in-loop-at.ensures))
     (c.loop-at.invariant.at_field (omega arith))

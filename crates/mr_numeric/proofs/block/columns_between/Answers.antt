@@ -9,7 +9,8 @@ use Rattle.mr_numeric.proofs.block.columns_between.Goals as goal
 pub loop-j-preserved : goal.loop-j-preserved
 loop-j-preserved c =
     let deviations = deviations_of c.args.means.now c.args.grid.now c.args.from (c.args.to - c.args.from) c.loop-j.j in
-    let is : c.in-Some.column ≡ deviations = subst (λ o. IfSome o (λ column. column ≡ deviations)) c.in-Some.is c.in_ok-column.ensures.column in
+    let is : c.in-Some.column ≡ deviations =
+    subst (λ o. IfSome o (λ column. column ≡ deviations)) c.in-Some.is c.in_ok-column.ensures.column in
     let mild : AreMild c.in-Some.column = subst (λ o. IfSome o AreMild) c.in-Some.is c.in_ok-column.ensures.mild in
     record {
       columns = c.in_ok-push.ensures.items

@@ -1,4 +1,4 @@
-use Rattle.std.proofs.Common.{◌≤◌, pos, nat_abs, get_or, subst, sym, ap, arith}
+use Rattle.std.proofs.Common.{◌≤◌, pos, nat_abs, get_or, subst, sym, arith}
 use Rattle.std.proofs.lemmas.List.Elements.{All-get_or}
 use Rattle.mr_defs.specs.Limits.{greatest_element}
 use Rattle.mr_numeric.proofs.Products.{apart_small, apart_is}

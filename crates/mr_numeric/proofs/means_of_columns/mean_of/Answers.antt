@@ -1,4 +1,4 @@
-use Rattle.std.proofs.Common.{rules, ◌≡◌, ap, ap₂, ◌∙◌, w32, to_z, of_z}
+use Rattle.std.proofs.Common.{rules, ap, ap₂, ◌∙◌, w32, to_z, of_z}
 use Rattle.std.specs.Int.{int_div_euclid, w128}
 use Rattle.std.proofs.lemmas.Int.{to_z-of_z}
 use Rattle.mr_numeric.proofs.Quotients.{quotient_small, narrow_is}

@@ -1,5 +1,5 @@
 use Rattle.std.proofs.Common.{◌≡◌, arith, ◌≤◌, ◌++◌, nat_abs, w64, to_z, of_z, ap₂, ◌∙◌, ◌∷◌, [], ℕ, ℤ, pos, ◌*ℤ◌, List, take, subst}
-use Rattle.std.specs.Prelude.{flat_map, OnOk, OnErr}
+use Rattle.std.specs.Prelude.{OnOk, OnErr}
 use Rattle.mr_defs.specs.Emission.{Emission, Pair}
 use Rattle.mr_defs.specs.Folded.{limit}
 use Rattle.mr_defs.specs.Limits.{greatest_element}

@@ -1,7 +1,5 @@
-use Rattle.std.proofs.Common.{rules, ◌≡◌, ◌≤◌, ◌<◌, ◌+◌, ◌-◌, ◌*◌, ◌++◌, ℕ, ℤ, ◌*ℤ◌, List, length, take, subst, ap, ap₂, ◌∙◌, arith}
-use Rattle.std.specs.Prelude.{IfSome}
+use Rattle.std.proofs.Common.{◌≡◌, ◌+◌, ◌*◌, ◌++◌, ℤ, ◌*ℤ◌, length, take, subst, ap, ap₂, ◌∙◌, arith}
 use Rattle.std.proofs.lemmas.Result.{err_from_is_err_and}
-use Rattle.mr_defs.specs.Emission.{Emission}
 use Rattle.mr_items.specs.Pca.{deviation}
 use Rattle.mr_numeric.specs.Pairs.{sum_of, couple_emits}
 use Rattle.mr_numeric.proofs.Emitted.{emitted, one_more, front}

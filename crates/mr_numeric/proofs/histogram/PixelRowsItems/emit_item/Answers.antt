@@ -1,9 +1,9 @@
-use Rattle.std.proofs.Common.{rules, ◌≡◌, ◌≤◌, ◌<◌, ◌+◌, ◌-◌, ◌*◌, ◌++◌, ℕ, List, length, map, take, refl, subst, sym, ap, ap₂, arith, ◌∙◌}
+use Rattle.std.proofs.Common.{rules, ◌≡◌, ◌<◌, ◌+◌, ◌-◌, ◌*◌, ◌++◌, ℕ, List, take, subst, sym, ap, ap₂, arith, ◌∙◌}
 use Rattle.std.specs.Prelude.{flat_map}
 use Rattle.std.specs.List.{range_with_len}
 use Rattle.std.proofs.lemmas.Result.{err_from_is_err_and}
 use Rattle.std.proofs.lemmas.List.Folds.{flat_map-map}
-use Rattle.mr_items.specs.Bitmap.{pixels_in_row, pixel_offsets, place_of, stride_of}
+use Rattle.mr_items.specs.Bitmap.{pixels_in_row, place_of, stride_of}
 use Rattle.mr_items.specs.Histogram.{pixel_emits, histogram_emits}
 use Rattle.mr_grid.specs.declared.bitmap.Bitmap.{Bitmap}
 use Rattle.mr_numeric.proofs.Emitted.{emitted, one_more, front}
