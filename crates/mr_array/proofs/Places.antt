@@ -20,7 +20,7 @@ use Rattle.mr_container.specs.Block.{run_emissions}
 use Rattle.mr_container.specs.Partition.{IsPartition}
 use Rattle.mr_container.proofs.Emitted.{after_pair}
 use Rattle.mr_container.proofs.Entries.{same_tied, tied_same, part_of_distinct}
-use Rattle.mr_array.specs.Cells.{is_below, cell_in, filled, numbered}
+use Rattle.mr_array.specs.Cells.{is_below, cell_under, filled, numbered}
 
 -- numbers that tie, and numbers that do not
 same_key : (x y : ℕ) → x ≡ y → eq_by_cmp nat_cmp x y ≡ true
@@ -44,7 +44,7 @@ none_filled C zero = refl
 none_filled C (suc n) = none_filled C n
 
 module _ {C : Type 0} where
-  pub none_there : (n q : ℕ) → cell_in (replicate {A = Option C} n None) q ≡ None
+  pub none_there : (n q : ℕ) → cell_under (replicate {A = Option C} n None) q ≡ None
   none_there n q = elim (cases_lt q n) [
     | inl h ↦ get_or-replicate n q None None h
     | inr h ↦ get_or_past (replicate n None) q None (subst (λ l. l ≤ q) (sym (length-replicate n None)) h)
@@ -62,12 +62,12 @@ module _ {C : Type 0} where
       ≡ cond t (suc (filled cells)) (suc (filled cells) + 1)) [ true ↦ refl | false ↦ omega arith ]
 
   cell_set : (cells : List (Option C)) (k : ℕ) (c : C) → k < length cells → (q : ℕ)
-      → cell_in (set cells k (Some c)) q ≡ cond (eq_by_cmp nat_cmp q k) (Some c) (cell_in cells q)
+      → cell_under (set cells k (Some c)) q ≡ cond (eq_by_cmp nat_cmp q k) (Some c) (cell_under cells q)
   cell_set cells k c h q = elim (eqb_tells q k) [
     | inl same ↦ ap (λ n. get_or (set cells k (Some c)) n None) same.1 ∙ get_or-set_same cells k (Some c) None h
-        ∙ sym (ap (λ t. cond t (Some c) (cell_in cells q)) (same_key q k same.1))
+        ∙ sym (ap (λ t. cond t (Some c) (cell_under cells q)) (same_key q k same.1))
     | inr other ↦ get_or-set_other cells k q (Some c) None other.1
-        ∙ sym (ap (λ t. cond t (Some c) (cell_in cells q)) (other_key q k other.1))
+        ∙ sym (ap (λ t. cond t (Some c) (cell_under cells q)) (other_key q k other.1))
   ]
 
   -- a key is found at its place
@@ -99,7 +99,7 @@ module _ {C : Type 0} where
   distinct (Some c ∷ cells) i = (above cells (i + 1) i (omega arith), distinct cells (i + 1))
 
   pub part_of_cells : (part_of : ℕ → ℕ) (part : ℕ) (cells : List (Option C))
-      → IsPartition nat_cmp (cell_in cells) part_of part (filter (λ e. part_of e.0 == part) (numbered 0 cells))
+      → IsPartition nat_cmp (cell_under cells) part_of part (filter (λ e. part_of e.0 == part) (numbered 0 cells))
   part_of_cells part_of part cells =
       let whole = part_of_distinct nat_cmp nat_cmp-IsAntisymmetric part_of part (numbered 0 cells) (distinct cells 0) in
       record {
@@ -110,20 +110,20 @@ module _ {C : Type 0} where
 -- a pair of a key comes to its place
 module _ {C V : Type 0} (inside : ℕ → Bool) (unit : V → C) {merged : C → C → C} (laws : IsCommutative merged) (cells : List (Option C))
     (noted : Noted ℕ) (k place : ℕ) (at : place ≡ k) (v : V) (within : place < length cells) (h : inside k ≡ true) where
-  pub emitted : (new : C) → Some new ≡ joined merged (cell_in cells place) (Some (unit v)) → (es : List (Emission ℕ V))
-      → StandsFor nat_cmp inside unit merged (cell_in cells) (filled cells) noted es
-      → StandsFor nat_cmp inside unit merged (cell_in (set cells place (Some new))) (filled (set cells place (Some new))) noted
+  pub emitted : (new : C) → Some new ≡ joined merged (cell_under cells place) (Some (unit v)) → (es : List (Emission ℕ V))
+      → StandsFor nat_cmp inside unit merged (cell_under cells) (filled cells) noted es
+      → StandsFor nat_cmp inside unit merged (cell_under (set cells place (Some new))) (filled (set cells place (Some new))) noted
       (es ++ Pair k v ∷ [])
   emitted new is es was =
-      after_pair nat_cmp_total nat_cmp-IsAntisymmetric inside unit laws (cell_in cells) (filled cells) noted es was
-      (cell_in (set cells place (Some new))) (filled (set cells place (Some new))) k v h
-      (λ q. cell_set cells place new within q ∙ ap (λ x. cond (eq_by_cmp nat_cmp q place) x (cell_in cells q)) is
-      ∙ ap (λ n. cond (eq_by_cmp nat_cmp q n) (joined merged (cell_in cells n) (Some (unit v))) (cell_in cells q)) at)
-      (filled_set cells place new within ∙ ap (λ n. cond (is_some (cell_in cells n)) (filled cells) (filled cells + 1)) at)
+      after_pair nat_cmp_total nat_cmp-IsAntisymmetric inside unit laws (cell_under cells) (filled cells) noted es was
+      (cell_under (set cells place (Some new))) (filled (set cells place (Some new))) k v h
+      (λ q. cell_set cells place new within q ∙ ap (λ x. cond (eq_by_cmp nat_cmp q place) x (cell_under cells q)) is
+      ∙ ap (λ n. cond (eq_by_cmp nat_cmp q n) (joined merged (cell_under cells n) (Some (unit v))) (cell_under cells q)) at)
+      (filled_set cells place new within ∙ ap (λ n. cond (is_some (cell_under cells n)) (filled cells) (filled cells + 1)) at)
 
-  pub emitted_ok : {A E : Type 0} → (old new : C) (r : Result A E) → cell_in cells place ≡ Some old → OnOk r (new ≡ merged old (unit v))
-      → OnOk r ((es : List (Emission ℕ V)) → StandsFor nat_cmp inside unit merged (cell_in cells) (filled cells) noted es
-      → StandsFor nat_cmp inside unit merged (cell_in (set cells place (Some new))) (filled (set cells place (Some new))) noted
+  pub emitted_ok : {A E : Type 0} → (old new : C) (r : Result A E) → cell_under cells place ≡ Some old → OnOk r (new ≡ merged old (unit v))
+      → OnOk r ((es : List (Emission ℕ V)) → StandsFor nat_cmp inside unit merged (cell_under cells) (filled cells) noted es
+      → StandsFor nat_cmp inside unit merged (cell_under (set cells place (Some new))) (filled (set cells place (Some new))) noted
       (es ++ Pair k v ∷ []))
   emitted_ok old new (Ok a) was is = emitted new (ap Some is ∙ ap (λ x. joined merged x (Some (unit v))) (sym was))
   emitted_ok old new (Err e) was is = tt
@@ -131,34 +131,34 @@ module _ {C V : Type 0} (inside : ℕ → Bool) (unit : V → C) {merged : C →
 -- the pairs of a run come to their key's place
 module _ {C V : Type 0} (inside : ℕ → Bool) (unit : V → C) {merged : C → C → C} (laws : IsCommutative merged) (noted : Noted ℕ)
     (k place : ℕ) (at : place ≡ k) (h : inside k ≡ true) where
-  emitted_run : (vs : List V) (cells : List (Option C)) (old : C) → place < length cells → cell_in cells place ≡ Some old
+  emitted_run : (vs : List V) (cells : List (Option C)) (old : C) → place < length cells → cell_under cells place ≡ Some old
       → (es : List (Emission ℕ V))
-      → StandsFor nat_cmp inside unit merged (cell_in cells) (filled cells) noted es
+      → StandsFor nat_cmp inside unit merged (cell_under cells) (filled cells) noted es
       → let new = set cells place (Some (added unit merged old vs)) in
-      StandsFor nat_cmp inside unit merged (cell_in new) (filled new) noted (es ++ run_emissions k vs)
+      StandsFor nat_cmp inside unit merged (cell_under new) (filled new) noted (es ++ run_emissions k vs)
   emitted_run [] cells old within was es stands =
       let same : set cells place (Some old) ≡ cells = ap (set cells place) (sym was) ∙ set-get_or cells place None in
-      subst (λ cs. StandsFor nat_cmp inside unit merged (cell_in cs) (filled cs) noted (es ++ [])) (sym same)
-      (subst (StandsFor nat_cmp inside unit merged (cell_in cells) (filled cells) noted) (sym (append-nil es)) stands)
+      subst (λ cs. StandsFor nat_cmp inside unit merged (cell_under cs) (filled cs) noted (es ++ [])) (sym same)
+      (subst (StandsFor nat_cmp inside unit merged (cell_under cells) (filled cells) noted) (sym (append-nil es)) stands)
   emitted_run (v ∷ vs) cells old within was es stands =
       let next = merged old (unit v) in
       let mid = set cells place (Some next) in
-      let there : cell_in mid place ≡ Some next = get_or-set_same cells place (Some next) None within in
+      let there : cell_under mid place ≡ Some next = get_or-set_same cells place (Some next) None within in
       let twice : set mid place (Some (added unit merged next vs)) ≡ set cells place (Some (added unit merged next vs)) =
       set-set cells place (Some next) (Some (added unit merged next vs)) in
-      subst (λ cs. StandsFor nat_cmp inside unit merged (cell_in cs) (filled cs) noted (es ++ run_emissions k (v ∷ vs))) twice
-      (subst (StandsFor nat_cmp inside unit merged (cell_in (set mid place (Some (added unit merged next vs))))
+      subst (λ cs. StandsFor nat_cmp inside unit merged (cell_under cs) (filled cs) noted (es ++ run_emissions k (v ∷ vs))) twice
+      (subst (StandsFor nat_cmp inside unit merged (cell_under (set mid place (Some (added unit merged next vs))))
       (filled (set mid place (Some (added unit merged next vs)))) noted) (append_assoc es (Pair k v ∷ []) (run_emissions k vs))
       (emitted_run vs mid next (subst (λ l. place < l) (sym (length-set cells place (Some next))) within) there (es ++ Pair k v ∷ [])
       (emitted inside unit laws cells noted k place at v within h next (ap (λ c. joined merged c (Some (unit v))) (sym was)) es stands)))
 
-  pub emitted_run_is : (vs : List V) (cells : List (Option C)) (old new : C) → place < length cells → cell_in cells place ≡ Some old
+  pub emitted_run_is : (vs : List V) (cells : List (Option C)) (old new : C) → place < length cells → cell_under cells place ≡ Some old
       → new ≡ added unit merged old vs → (es : List (Emission ℕ V))
-      → StandsFor nat_cmp inside unit merged (cell_in cells) (filled cells) noted es
-      → StandsFor nat_cmp inside unit merged (cell_in (set cells place (Some new))) (filled (set cells place (Some new))) noted
+      → StandsFor nat_cmp inside unit merged (cell_under cells) (filled cells) noted es
+      → StandsFor nat_cmp inside unit merged (cell_under (set cells place (Some new))) (filled (set cells place (Some new))) noted
       (es ++ run_emissions k vs)
   emitted_run_is vs cells old new within was is es stands =
-      subst (λ c. StandsFor nat_cmp inside unit merged (cell_in (set cells place (Some c))) (filled (set cells place (Some c))) noted
+      subst (λ c. StandsFor nat_cmp inside unit merged (cell_under (set cells place (Some c))) (filled (set cells place (Some c))) noted
       (es ++ run_emissions k vs)) (sym is) (emitted_run vs cells old within was es stands)
 
 -- the key that stands at a place

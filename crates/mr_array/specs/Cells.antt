@@ -7,8 +7,8 @@ is_below n k = nat_lt k n
 
 module _ {C : Type 0} where
   -- the cell of a key, none past the end
-  abbrev pub cell_in : List (Option C) → ℕ → Option C
-  cell_in cells k = slice_index_or cells k None
+  abbrev pub cell_under : List (Option C) → ℕ → Option C
+  cell_under cells k = slice_index_or cells k None
 
   -- how many places have a cell
   abbrev pub filled : List (Option C) → ℕ

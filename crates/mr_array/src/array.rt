@@ -8,7 +8,7 @@ ghost use Rattle.mr_defs.specs.Limits.{greatest_capacity};
 ghost use Rattle.mr_defs.specs.Stands.{StandsFor};
 ghost use Rattle.mr_base.specs.Noting.{noted_of};
 ghost use Rattle.mr_container.specs.Laws.{any_order, kept};
-ghost use Rattle.mr_array.specs.Cells.{is_below, cell_in, filled};
+ghost use Rattle.mr_array.specs.Cells.{is_below, cell_under, filled};
 
 use mr_base::{Faults, Key, Memory, NumKey, keep_lesser};
 use mr_combine::{Combiner, Run};
@@ -101,7 +101,7 @@ impl<C: Combiner, S: Size> Local for ArrayLocal<C, S> {
 
     type Value = C::Value;
 
-    ghost stands = { λ s es. StandsFor ⟦<NumKey as Ord>⟧.cmp (is_below S.size) C.unit_of C.merged (cell_in s.cells.items)
+    ghost stands = { λ s es. StandsFor ⟦<NumKey as Ord>⟧.cmp (is_below S.size) C.unit_of C.merged (cell_under s.cells.items)
         (filled s.cells.items) (noted_of s.faults) es };
 
     ghost noted = { λ s. noted_of s.faults };
@@ -119,7 +119,7 @@ impl<C: Combiner, S: Size> Local for ArrayLocal<C, S> {
     ghost same_refl = { λ _. (refl, refl) };
 
     ghost same_keeps = { λ s t e. (
-      kept ⟦<NumKey as Ord>⟧.cmp (is_below S.size) C.unit_of C.merged _ _ _ _ _ _ (λ k. ap (λ cells. cell_in cells k) e.0)
+      kept ⟦<NumKey as Ord>⟧.cmp (is_below S.size) C.unit_of C.merged _ _ _ _ _ _ (λ k. ap (λ cells. cell_under cells k) e.0)
           (ap filled e.0) e.1,
       e.1,
       ap filled e.0,
@@ -191,14 +191,14 @@ impl<C: Combiner, S: Size> Parted for ArrayLocal<C, S> {
     ghost use Rattle.std.specs.Prelude.{◌≡◌, ◌==◌, ◌≤◌, ◌%◌, drop, filter};
     ghost use Rattle.std.proofs.Common.{ap};
     ghost use Rattle.mr_container.specs.Laws.{part_below};
-    ghost use Rattle.mr_array.specs.Cells.{is_below, cell_in, numbered};
+    ghost use Rattle.mr_array.specs.Cells.{is_below, cell_under, numbered};
     ghost use Rattle.mr_array.specs.Sparing.{fixed_spares, outside_spares};
 
     type Fold = C;
 
     ghost inside = { is_below S.size };
 
-    ghost cell = { λ s k. cell_in s.cells.items k };
+    ghost cell = { λ s k. cell_under s.cells.items k };
 
     ghost part_of = { λ parts k. k % parts };
 
@@ -210,7 +210,7 @@ impl<C: Combiner, S: Size> Parted for ArrayLocal<C, S> {
 
     ghost whole_meaning = { λ s es h. h };
 
-    ghost same_cells = { λ s t e k. ap (λ cells. cell_in cells k) e.0 };
+    ghost same_cells = { λ s t e k. ap (λ cells. cell_under cells k) e.0 };
 
     ghost same_cursors = { λ s t e c h. (
       h,

@@ -25,7 +25,7 @@ abbrev pub is_capacity : ℤ → Bool
 is_capacity n = list_any (λ m. int_eq m n) capacities
 
 -- a row of the table of pairings
-pub record Row : Type 0 where
+pub record PairingRow : Type 0 where
   pub job : JobKind
   pub keys : KeyKind
   pub containers : List ContainerKind
@@ -34,7 +34,7 @@ pub record Row : Type 0 where
   pub further : Further
 
 -- its columns in their order
-abbrev pub row_of : JobKind → KeyKind → List ContainerKind → List CombinerKind → List ReducerKind → Further → Row
+abbrev pub row_of : JobKind → KeyKind → List ContainerKind → List CombinerKind → List ReducerKind → Further → PairingRow
 row_of job keys containers combiners reducers further =
     record { job = job; keys = keys; containers = containers; combiners = combiners; reducers = reducers; further = further }
 
@@ -77,7 +77,7 @@ abbrev lists : List ReducerKind
 lists = reducer.List ∷ reducer.Distinct ∷ []
 
 -- the table
-abbrev pub rows : List Row
+abbrev pub rows : List PairingRow
 rows =
     row_of job.WordCount keys.Bytes hash counts [] further.Nothing
     ∷ row_of job.FoldLines keys.Bytes hash plain each further.Keys
@@ -94,21 +94,21 @@ rows =
     ∷ []
 
 -- a row as the code holds it
-abbrev pub seen_row : JobKind × KeyKind × Bor (List ContainerKind) × Bor (List CombinerKind) × Bor (List ReducerKind) × Further → Row
+abbrev pub seen_row : JobKind × KeyKind × Bor (List ContainerKind) × Bor (List CombinerKind) × Bor (List ReducerKind) × Further → PairingRow
 seen_row row = row_of row.0 row.1 row.2.now row.3.now row.4.now row.5
 
 -- the row has this combiner with this reducer: only a buffer has one
-abbrev pub has_combiner : Row → CombinerKind → Option ReducerKind → Bool
+abbrev pub has_combiner : PairingRow → CombinerKind → Option ReducerKind → Bool
 has_combiner row c None = list_any (λ x. same_combiner x c) row.combiners
 has_combiner row c (Some r) = same_combiner c combiner.Buffer && list_any (λ x. same_reducer x r) row.reducers
 
 -- the row has this container, and this combiner with this reducer
-abbrev pub has_parts : Row → ContainerKind → CombinerKind → Option ReducerKind → Bool
+abbrev pub has_parts : PairingRow → ContainerKind → CombinerKind → Option ReducerKind → Bool
 has_parts row container combiner reducer =
     list_any (λ x. same_container x container) row.containers && has_combiner row combiner reducer
 
 -- the row says that all these go together
-abbrev pub is_row : Row → JobKind → ContainerKind → KeyKind → CombinerKind → Option ReducerKind → Bool
+abbrev pub is_row : PairingRow → JobKind → ContainerKind → KeyKind → CombinerKind → Option ReducerKind → Bool
 is_row row job container keys combiner reducer =
     same_job row.job job && same_keys row.keys keys && has_parts row container combiner reducer
 

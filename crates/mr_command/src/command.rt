@@ -65,7 +65,7 @@ fn copies(alloc: Global, names: &[&str]) -> Result<Vec<Word>, Memory>
 }
 
 // The command of accepted words, where their values have a form.
-fn judged(alloc: Global, matches: &ArgMatches<'_>) -> Result<Command, Stop<Usage>>
+fn command_of(alloc: Global, matches: &ArgMatches<'_>) -> Result<Command, Stop<Usage>>
     ensures ok { IfOk result (λ c. form_of_rows (rows_of (found_of matches.now)) ≡ Some (asked c)) }
     ensures usage { (u : Usage) → result ≡ Err (Stop.Refused u) → form_of_rows (rows_of (found_of matches.now)) ≡ None }
     ensures workers { IfOk result (λ c. IsUpTo workers_most c.workers) }
@@ -99,5 +99,5 @@ pub fn read_command(alloc: Global, words: &[Word]) -> Result<Command, Stop<Usage
     ensures within { IfOk result (λ c. IsWithin c.mode) }
 {
     let matches = parse(alloc, words)?;
-    judged(alloc, &matches)
+    command_of(alloc, &matches)
 }

@@ -12,7 +12,7 @@ use Rattle.mr_capacity.specs.declared.kinds.CombinerKind.{CombinerKind}
 use Rattle.mr_capacity.specs.declared.tables.Further.TheVariants as further
 use Rattle.mr_capacity.specs.contracts.kinds.JobKind.{the_type}
 use Rattle.mr_capacity.specs.Same.{same_job, same_further, same_keys}
-use Rattle.mr_capacity.specs.Tables.{Row, rows, is_row, is_capacity, is_pairing, has_parts}
+use Rattle.mr_capacity.specs.Tables.{PairingRow, rows, is_row, is_capacity, is_pairing, has_parts}
 use Rattle.mr_jobfile.specs.declared.key.JobKey.{JobKey}
 use Rattle.mr_jobfile.specs.declared.key.JobKey.TheVariants as key
 use Rattle.mr_jobfile.specs.declared.values.Values.{Values}
@@ -90,7 +90,7 @@ abbrev same_flag : Bool → Bool → Bool
 same_flag true b = b
 same_flag false b = not b
 
-abbrev agrees : Row → Bool
+abbrev agrees : PairingRow → Bool
 agrees row = same_flag (has_means row.job) (same_further row.further further.Means)
     && same_flag (has_patterns row.job) (same_further row.further further.Patterns)
 
@@ -108,7 +108,7 @@ record HasFurther (v : Values) (job : JobKind) : Type 0 where
   rounds : is_there_exactly (has_means job) v.rounds ≡ true
   patterns : is_there_exactly (has_patterns job) v.patterns ≡ true
 
-further_of : (v : Values) (job : JobKind) (container : ContainerKind) (combiner : CombinerKind) (row : Row)
+further_of : (v : Values) (job : JobKind) (container : ContainerKind) (combiner : CombinerKind) (row : PairingRow)
     → fits_row v job container combiner row ≡ true → agrees row ≡ true → HasFurther v job
 further_of v job container combiner row fits agree =
     let (in_row, others) = and_parts (is_row row job container row.keys combiner v.reducer) (has_further row v) fits in
@@ -131,7 +131,7 @@ further_of v job container combiner row fits agree =
       patterns = rw has_patterns_too at listed;
     }
 
-in_pairings : (v : Values) (job : JobKind) (container : ContainerKind) (combiner : CombinerKind) (row : Row)
+in_pairings : (v : Values) (job : JobKind) (container : ContainerKind) (combiner : CombinerKind) (row : PairingRow)
     → fits_row v job container combiner row ≡ true → is_row row job container row.keys combiner v.reducer ≡ true
 in_pairings v job container combiner row fits =
     (and_parts (is_row row job container row.keys combiner v.reducer) (has_further row v) fits).0
@@ -147,7 +147,7 @@ allowed_with : (v : Values) → AreGood v → (job : JobKind) (container : Conta
     → is_capacity (pos capacity) ≡ true
     → IfSome (option_map (job_with v job container capacity combiner) (keys_in rows v job container combiner)) IsAllowed
 allowed_with v good job container capacity combiner capacity_good =
-    let fits : Row → Bool = fits_row v job container combiner in
+    let fits : PairingRow → Bool = fits_row v job container combiner in
     let passing : IfSome (find fits rows) (λ row. (fits row ≡ true) × (agrees row ≡ true)) = found_passes fits agrees rows all_agree in
     let among : IfSome (find fits rows) (λ row. is_pairing job container row.keys combiner v.reducer ≡ true) =
     found_among fits (λ found row. is_row row job container found.keys combiner v.reducer) rows (in_pairings v job container combiner) in

@@ -13,7 +13,7 @@ use Rattle.mr_capacity.specs.declared.kinds.QueueKind.TheVariants as queue
 use Rattle.mr_capacity.specs.declared.tables.Further.TheVariants as further
 use Rattle.mr_capacity.specs.Names.{job_names, container_names, key_names, combiner_names, reducer_names, queue_names}
 use Rattle.mr_capacity.specs.Same.{same_keys, same_further}
-use Rattle.mr_capacity.specs.Tables.{Row, rows, is_row}
+use Rattle.mr_capacity.specs.Tables.{PairingRow, rows, is_row}
 use Rattle.mr_jobfile.specs.declared.key.JobKey.{JobKey}
 use Rattle.mr_jobfile.specs.declared.key.JobKey.TheVariants as key
 use Rattle.mr_jobfile.specs.declared.values.Values.{Values}
@@ -48,7 +48,7 @@ is_there_exactly true value = is_some value
 is_there_exactly false value = is_none value
 
 -- of the further keys exactly those are there that the row names, and keys is the row's key kind
-abbrev pub has_further : Row → Values → Bool
+abbrev pub has_further : PairingRow → Values → Bool
 has_further row v =
     is_there_exactly (same_further row.further further.Keys) v.keys
     && is_there_exactly (same_further row.further further.Patterns) v.patterns
@@ -57,11 +57,11 @@ has_further row v =
     && option_map_or (same_keys row.keys) v.keys true
 
 -- the row has this job and container, this combiner with the reducer that the values have, and their further keys
-abbrev pub fits_row : Values → JobKind → ContainerKind → CombinerKind → Row → Bool
+abbrev pub fits_row : Values → JobKind → ContainerKind → CombinerKind → PairingRow → Bool
 fits_row v job container combiner row = is_row row job container row.keys combiner v.reducer && has_further row v
 
 -- the key kind of the first such row
-abbrev pub keys_in : List Row → Values → JobKind → ContainerKind → CombinerKind → Option KeyKind
+abbrev pub keys_in : List PairingRow → Values → JobKind → ContainerKind → CombinerKind → Option KeyKind
 keys_in rows v job container combiner = option_map (λ row. row.keys) (find (fits_row v job container combiner) rows)
 
 -- a job as clauses see it: its fields, without the bounds that they keep

@@ -170,7 +170,8 @@ const TAILS: [(&str, &str); 28] = [
         "pairing",
     ),
     (
-        "patterns = [\"p\", \"p\", \"p\", \"p\", \"p\", \"p\", \"p\", \"p\", \"p\", \"p\", \"p\", \"p\", \"p\", \"p\", \"p\", \"p\", \"p\"]",
+        "patterns = [\"p\", \"p\", \"p\", \"p\", \"p\", \"p\", \"p\", \"p\", \
+\"p\", \"p\", \"p\", \"p\", \"p\", \"p\", \"p\", \"p\", \"p\"]",
         "bad patterns",
     ),
     ("color = 2", "unknown color"),

@@ -26,8 +26,8 @@ fn rounds_and_workers(rt: HostRuntime) -> Result<(), Fail> {
     let alloc = rt.alloc();
     let rounds = [round(alloc, 2, 10)?, round(alloc, 0, 4294967295)?];
     let text = report(alloc, &rounds)?;
-    let lines =
-        b"round 1 worker 0 cells 7 tasks 2 10\nround 1 worker 1 cells 0 tasks\nround 2 worker 0 cells 7 tasks 0 4294967295\nround 2 worker 1 cells 0 tasks\n";
+    let lines = b"round 1 worker 0 cells 7 tasks 2 10\nround 1 worker 1 cells 0 tasks\n\
+round 2 worker 0 cells 7 tasks 0 4294967295\nround 2 worker 1 cells 0 tasks\n";
     assert!(rt; text.as_bytes() == lines.as_slice());
     Ok(())
 }
