@@ -8,7 +8,5 @@
 #![tactic(auto)]
 
 mod array;
-#[cfg(test)]
-mod tests;
 
 pub use array::{ArrayLocal, Fixed, Size};

@@ -24,8 +24,6 @@ mod queues;
 mod ranges;
 mod rows;
 mod status;
-#[cfg(test)]
-mod tests;
 mod text;
 mod text_key;
 mod word;

@@ -12,8 +12,6 @@ mod claims;
 mod queues;
 mod rule;
 mod step;
-#[cfg(test)]
-mod tests;
 mod view;
 
 pub use claims::{ClaimPass, Claims};

@@ -20,8 +20,6 @@ mod run;
 mod scalar;
 mod single;
 mod sum;
-#[cfg(test)]
-mod tests;
 
 pub use both::Both;
 pub use buffer::{Buffer, BufferCell, Distinct, List, Median};

@@ -9,8 +9,6 @@
 
 mod command;
 mod parse;
-#[cfg(test)]
-mod tests;
 mod value;
 
 pub use command::{Command, Mode, Usage, read_command};

@@ -14,8 +14,6 @@ mod common_local;
 mod local;
 mod rule;
 mod step;
-#[cfg(test)]
-mod tests;
 mod view;
 
 pub use common::{CommonArray, CommonPass, Emitted};

@@ -13,8 +13,6 @@ mod local;
 mod mapper;
 mod parted;
 mod sorted;
-#[cfg(test)]
-mod tests;
 
 pub use cursor::Cursor;
 pub use local::Local;

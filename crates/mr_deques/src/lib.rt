@@ -16,8 +16,6 @@ mod queues;
 mod rule;
 mod share;
 mod take;
-#[cfg(test)]
-mod tests;
 mod view;
 
 pub use deques::Deques;

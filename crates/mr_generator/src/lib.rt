@@ -8,8 +8,6 @@
 #![tactic(auto)]
 
 mod summing;
-#[cfg(test)]
-mod tests;
 mod words;
 
 pub use summing::summary;

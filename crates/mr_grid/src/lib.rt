@@ -14,8 +14,6 @@ mod grid;
 mod line;
 mod ranges;
 mod reading;
-#[cfg(test)]
-mod tests;
 
 pub use bitmap::{Bitmap, read_bitmap};
 pub use grid::Grid;

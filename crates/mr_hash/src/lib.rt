@@ -15,7 +15,5 @@ mod hash;
 mod near;
 mod slots;
 mod table;
-#[cfg(test)]
-mod tests;
 
 pub use hash::HashLocal;

@@ -12,8 +12,6 @@ mod edges;
 mod masks;
 mod product;
 mod scan;
-#[cfg(test)]
-mod tests;
 
 pub use count::count_byte;
 pub use edges::{field_edges, word_edges};

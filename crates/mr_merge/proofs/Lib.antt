@@ -5,6 +5,5 @@ pub mod Leads
 pub mod Order
 pub mod Plans
 pub mod Printing
-pub mod Rungs
 pub mod Runs
 pub mod Taking

@@ -12,8 +12,6 @@ mod lesser;
 mod merge;
 mod plan;
 mod ranges;
-#[cfg(test)]
-mod tests;
 mod text;
 
 pub use merge::merge_all;

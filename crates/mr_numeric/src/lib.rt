@@ -10,8 +10,6 @@
 
 mod block;
 mod cluster_lines;
-#[cfg(test)]
-mod cluster_tests;
 mod columns;
 mod distance;
 mod histogram;
@@ -28,8 +26,6 @@ mod regression_lines;
 mod spanned;
 mod spread;
 mod sums;
-#[cfg(test)]
-mod tests;
 
 pub use cluster_lines::kmeans_text;
 pub use columns::{ColumnSums, Columns};

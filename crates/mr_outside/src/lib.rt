@@ -25,6 +25,3 @@ pub use reading::{ReadFault, ReadStop, Taken, read_all};
 pub use shelf::{Got, Shelf, Started};
 pub use sink::{Put, Sink};
 pub use writing::{WriteFault, put_all};
-
-#[cfg(test)]
-mod tests;

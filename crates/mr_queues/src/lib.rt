@@ -9,7 +9,5 @@
 mod any;
 mod pass;
 mod queues;
-#[cfg(test)]
-mod tests;
 
 pub use any::{AnyPass, AnyQueues};

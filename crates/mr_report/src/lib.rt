@@ -4,7 +4,5 @@
 #![tactic(auto)]
 
 mod printing;
-#[cfg(test)]
-mod tests;
 
 pub use printing::{Share, report};

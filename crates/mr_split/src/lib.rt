@@ -13,6 +13,3 @@ mod part;
 pub use boundary::Boundary;
 pub use cutting::{pieces, spans};
 pub use part::{Piece, Pieces, Span, Spans};
-
-#[cfg(test)]
-mod tests;
