@@ -2,8 +2,6 @@
 use Rattle.std.specs.Prelude.{ℕ, List, [], ◌∷◌, codes, Option, option_map, map, find}
 use Rattle.std.specs.Borrow.{Bor}
 use Rattle.std.specs.Str.{bytes_eq}
-use Rattle.mr_capacity.specs.declared.kinds.JobKind.{JobKind}
-use Rattle.mr_capacity.specs.declared.kinds.JobKind.TheVariants as job
 use Rattle.mr_capacity.specs.declared.kinds.ContainerKind.{ContainerKind}
 use Rattle.mr_capacity.specs.declared.kinds.ContainerKind.TheVariants as container
 use Rattle.mr_capacity.specs.declared.kinds.KeyKind.{KeyKind}
@@ -27,20 +25,7 @@ entries names = map (λ entry. (entry.0.now, entry.1)) names
 abbrev pub constant_entries : {K : Type 0} → List (record { now : List ℕ } × K) → List (List ℕ × K)
 constant_entries names = map (λ entry. (entry.0.now, entry.1)) names
 
--- the tables of names, one for each kind
-abbrev pub job_names : List (List ℕ × JobKind)
-job_names =
-    (codes "word_count", job.WordCount)
-    ∷ (codes "fold_lines", job.FoldLines)
-    ∷ (codes "inverted_index", job.InvertedIndex)
-    ∷ (codes "string_match", job.StringMatch)
-    ∷ (codes "histogram", job.Histogram)
-    ∷ (codes "linear_regression", job.LinearRegression)
-    ∷ (codes "matrix_product", job.MatrixProduct)
-    ∷ (codes "kmeans", job.KMeans)
-    ∷ (codes "pca", job.Pca)
-    ∷ []
-
+-- the tables of names, one for each kind but that of jobs, which stands with what else there is of jobs
 abbrev pub container_names : List (List ℕ × ContainerKind)
 container_names =
     (codes "hash", container.Hash) ∷ (codes "array", container.Array) ∷ (codes "common", container.Common) ∷ []

@@ -1,20 +1,20 @@
 -- Whether two kinds are the same.
 use Rattle.std.specs.Prelude.{Bool}
 use denote.Enum.Bare.{sameb}
-use Rattle.mr_capacity.specs.declared.kinds.JobKind.{JobKind}
+use Rattle.mr_capacity.specs.declared.jobs.JobKind.{JobKind}
 use Rattle.mr_capacity.specs.declared.kinds.ContainerKind.{ContainerKind}
 use Rattle.mr_capacity.specs.declared.kinds.KeyKind.{KeyKind}
 use Rattle.mr_capacity.specs.declared.kinds.CombinerKind.{CombinerKind}
 use Rattle.mr_capacity.specs.declared.kinds.ReducerKind.{ReducerKind}
 use Rattle.mr_capacity.specs.declared.kinds.QueueKind.{QueueKind}
-use Rattle.mr_capacity.specs.declared.tables.Further.{Further}
-use Rattle.mr_capacity.specs.contracts.kinds.JobKind as job
+use Rattle.mr_capacity.specs.declared.jobs.Further.{Further}
+use Rattle.mr_capacity.specs.contracts.jobs.JobKind as job
 use Rattle.mr_capacity.specs.contracts.kinds.ContainerKind as container
 use Rattle.mr_capacity.specs.contracts.kinds.KeyKind as keys
 use Rattle.mr_capacity.specs.contracts.kinds.CombinerKind as combiner
 use Rattle.mr_capacity.specs.contracts.kinds.ReducerKind as reducer
 use Rattle.mr_capacity.specs.contracts.kinds.QueueKind as queue
-use Rattle.mr_capacity.specs.contracts.tables.Further as further
+use Rattle.mr_capacity.specs.contracts.jobs.Further as further
 
 -- of two values of one kind, by their variants
 abbrev pub same_job : JobKind → JobKind → Bool

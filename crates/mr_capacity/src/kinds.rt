@@ -1,17 +1,3 @@
-/// What is done with the input.
-#[derive(Clone, Copy, Debug, PartialEq, Eq)]
-pub enum JobKind {
-    WordCount,
-    FoldLines,
-    InvertedIndex,
-    StringMatch,
-    Histogram,
-    LinearRegression,
-    MatrixProduct,
-    KMeans,
-    Pca,
-}
-
 /// Where a worker keeps the values of its keys: a hash table or an array of each worker, or one array that all workers share.
 #[derive(Clone, Copy, Debug, PartialEq, Eq)]
 pub enum ContainerKind {

@@ -8,18 +8,14 @@
 #![tactic(auto)]
 
 mod dispatch;
+mod jobs;
 mod kinds;
 mod names;
 mod tables;
 
-pub use kinds::{CombinerKind, ContainerKind, JobKind, KeyKind, QueueKind, ReducerKind};
+pub use jobs::{Further, JOB_NAMES, JobKind, PAIRINGS, TEXT_JOBS};
+pub use kinds::{CombinerKind, ContainerKind, KeyKind, QueueKind, ReducerKind};
 pub use names::{
-    COMBINER_NAMES, CONTAINER_NAMES, JOB_NAMES, KEY_NAMES, QUEUE_NAMES, REDUCER_NAMES, named,
-    tables_of_names,
+    COMBINER_NAMES, CONTAINER_NAMES, KEY_NAMES, QUEUE_NAMES, REDUCER_NAMES, named, tables_of_names,
 };
-pub use tables::{
-    CAPACITIES, Further, PAIRINGS, Pairing, capacity_allowed, is_row, pairing_allowed,
-};
-
-#[cfg(test)]
-mod tests;
+pub use tables::{CAPACITIES, Pairing, capacity_allowed, is_row, is_text_job, pairing_allowed};

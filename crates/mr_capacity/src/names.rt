@@ -1,21 +1,10 @@
 ghost use Rattle.std.specs.Prelude.{◌≡◌};
-ghost use Rattle.mr_capacity.specs.Names.{entries, constant_entries, named, job_names, container_names, key_names, combiner_names};
-ghost use Rattle.mr_capacity.specs.Names.{reducer_names, queue_names};
+ghost use Rattle.mr_capacity.specs.Jobs.{job_names};
+ghost use Rattle.mr_capacity.specs.Names.{entries, constant_entries, named, container_names, key_names, combiner_names, reducer_names};
+ghost use Rattle.mr_capacity.specs.Names.{queue_names};
 
-use crate::kinds::{CombinerKind, ContainerKind, JobKind, KeyKind, QueueKind, ReducerKind};
-
-/// The jobs, by the names that a job file has for them.
-pub const JOB_NAMES: [(&str, JobKind); 9] = [
-    ("word_count", JobKind::WordCount),
-    ("fold_lines", JobKind::FoldLines),
-    ("inverted_index", JobKind::InvertedIndex),
-    ("string_match", JobKind::StringMatch),
-    ("histogram", JobKind::Histogram),
-    ("linear_regression", JobKind::LinearRegression),
-    ("matrix_product", JobKind::MatrixProduct),
-    ("kmeans", JobKind::KMeans),
-    ("pca", JobKind::Pca),
-];
+use crate::jobs::JOB_NAMES;
+use crate::kinds::{CombinerKind, ContainerKind, KeyKind, QueueKind, ReducerKind};
 
 /// The containers by name.
 pub const CONTAINER_NAMES: [(&str, ContainerKind); 3] = [

@@ -6,18 +6,20 @@ use Rattle.std.specs.List.{list_all}
 use Rattle.std.proofs.lemmas.Bool.{and_parts}
 use denote.Enum.Bare.{same_true}
 use Rattle.toml.specs.Data.{Data, Members, get_member}
-use Rattle.mr_capacity.specs.declared.kinds.JobKind.{JobKind}
+use Rattle.mr_capacity.specs.declared.jobs.JobKind.{JobKind}
 use Rattle.mr_capacity.specs.declared.kinds.ContainerKind.{ContainerKind}
 use Rattle.mr_capacity.specs.declared.kinds.CombinerKind.{CombinerKind}
-use Rattle.mr_capacity.specs.declared.tables.Further.TheVariants as further
-use Rattle.mr_capacity.specs.contracts.kinds.JobKind.{the_type}
+use Rattle.mr_capacity.specs.declared.jobs.Further.TheVariants as further
+use Rattle.mr_capacity.specs.contracts.jobs.JobKind.{the_type}
 use Rattle.mr_capacity.specs.Same.{same_job, same_further, same_keys}
-use Rattle.mr_capacity.specs.Tables.{PairingRow, rows, is_row, is_capacity, is_pairing, has_parts}
+use Rattle.mr_capacity.specs.Jobs.{is_text_job, rows}
+use Rattle.mr_capacity.specs.Rows.{PairingRow}
+use Rattle.mr_capacity.specs.Tables.{is_row, is_capacity, is_pairing, has_parts}
 use Rattle.mr_jobfile.specs.declared.key.JobKey.{JobKey}
 use Rattle.mr_jobfile.specs.declared.key.JobKey.TheVariants as key
 use Rattle.mr_jobfile.specs.declared.values.Values.{Values}
 use Rattle.mr_jobfile.specs.Ranges.{most_partitions, greatest_chunk, most_clusters, most_rounds, is_within, is_count_of, are_patterns}
-use Rattle.mr_jobfile.specs.Ranges.{are_patterns_of, has_means, has_patterns, is_text_job}
+use Rattle.mr_jobfile.specs.Ranges.{are_patterns_of, has_means, has_patterns}
 use Rattle.mr_jobfile.specs.Forms.{is_there, is_bad, first_bad, number_in, texts_in}
 use Rattle.mr_jobfile.specs.Keys.{key_text, all_keys}
 use Rattle.mr_jobfile.specs.Values.{said, values_of, is_there_exactly, has_further, fits_row, keys_in, default_chunk, default_partitions}

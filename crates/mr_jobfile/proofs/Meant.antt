@@ -3,7 +3,7 @@ use Rattle.std.proofs.Common.{◌≡◌, ℕ, List, [], ◌∷◌, ◌++◌, cod
 use Rattle.std.specs.Str.{chars, is_utf8}
 use Rattle.std.specs.Char.{encode_utf8}
 use Rattle.toml.proofs.OnLiterals.{toml_on_literals}
-use Rattle.mr_capacity.specs.declared.kinds.JobKind.TheVariants as job
+use Rattle.mr_capacity.specs.declared.jobs.JobKind.TheVariants as job
 use Rattle.mr_capacity.specs.declared.kinds.ContainerKind.TheVariants as container
 use Rattle.mr_capacity.specs.declared.kinds.KeyKind.TheVariants as keys
 use Rattle.mr_capacity.specs.declared.kinds.CombinerKind.TheVariants as combiner

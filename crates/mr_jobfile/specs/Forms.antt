@@ -3,7 +3,8 @@ use Rattle.std.specs.Prelude.{ℕ, pos, ◌^◌, Bool, false, not, nat_lt, is_so
 use Rattle.std.specs.Prelude.{option_and_then, option_map}
 use Rattle.std.specs.Option.{option_map_or}
 use Rattle.toml.specs.Data.{Data, string, integer, Items, no_items, item, Members, get_member, as_str, as_array}
-use Rattle.mr_capacity.specs.Names.{named, job_names, container_names, key_names, combiner_names, reducer_names, queue_names}
+use Rattle.mr_capacity.specs.Jobs.{job_names}
+use Rattle.mr_capacity.specs.Names.{named, container_names, key_names, combiner_names, reducer_names, queue_names}
 use Rattle.mr_capacity.specs.Tables.{is_capacity}
 use Rattle.mr_jobfile.specs.declared.key.JobKey.{JobKey}
 use Rattle.mr_jobfile.specs.declared.key.JobKey.TheVariants as key

@@ -1,8 +1,9 @@
 -- The ranges of a job's numbers and patterns.
 use Rattle.std.specs.Prelude.{ℕ, Bool, true, false, not, ◌&&◌, ◌==◌, nat_le, List, length}
 use Rattle.std.specs.List.{list_any, list_all}
-use Rattle.mr_capacity.specs.declared.kinds.JobKind.{JobKind}
-use Rattle.mr_capacity.specs.declared.kinds.JobKind.TheVariants as job
+use Rattle.mr_capacity.specs.declared.jobs.JobKind.{JobKind}
+use Rattle.mr_capacity.specs.declared.jobs.Further.TheVariants as further
+use Rattle.mr_capacity.specs.Tables.{goes_with}
 
 -- the most bytes of a job file
 abbrev pub job_limit : ℕ
@@ -51,18 +52,8 @@ are_patterns_of false patterns = length patterns == 0
 
 -- jobs that have clusters and rounds
 abbrev pub has_means : JobKind → Bool
-has_means job.KMeans = true
-has_means _ = false
+has_means job = goes_with further.Means job
 
--- the job that has patterns
+-- jobs that have patterns
 abbrev pub has_patterns : JobKind → Bool
-has_patterns job.StringMatch = true
-has_patterns _ = false
-
--- jobs over the bytes of a text, whose chunk counts bytes
-abbrev pub is_text_job : JobKind → Bool
-is_text_job job.WordCount = true
-is_text_job job.FoldLines = true
-is_text_job job.InvertedIndex = true
-is_text_job job.StringMatch = true
-is_text_job _ = false
+has_patterns job = goes_with further.Patterns job

@@ -3,22 +3,23 @@ use Rattle.std.specs.Prelude.{ℕ, Bool, true, false, is_some, is_none, ◌&&◌
 use Rattle.std.specs.Prelude.{option_and_then, unwrap_or, find}
 use Rattle.std.specs.Option.{option_map_or}
 use Rattle.toml.specs.Data.{Data, Members, get_member}
-use Rattle.mr_capacity.specs.declared.kinds.JobKind.{JobKind}
+use Rattle.mr_capacity.specs.declared.jobs.JobKind.{JobKind}
 use Rattle.mr_capacity.specs.declared.kinds.ContainerKind.{ContainerKind}
 use Rattle.mr_capacity.specs.declared.kinds.KeyKind.{KeyKind}
 use Rattle.mr_capacity.specs.declared.kinds.CombinerKind.{CombinerKind}
 use Rattle.mr_capacity.specs.declared.kinds.ReducerKind.{ReducerKind}
 use Rattle.mr_capacity.specs.declared.kinds.QueueKind.{QueueKind}
 use Rattle.mr_capacity.specs.declared.kinds.QueueKind.TheVariants as queue
-use Rattle.mr_capacity.specs.declared.tables.Further.TheVariants as further
-use Rattle.mr_capacity.specs.Names.{job_names, container_names, key_names, combiner_names, reducer_names, queue_names}
+use Rattle.mr_capacity.specs.declared.jobs.Further.TheVariants as further
+use Rattle.mr_capacity.specs.Jobs.{is_text_job, job_names, rows}
+use Rattle.mr_capacity.specs.Names.{container_names, key_names, combiner_names, reducer_names, queue_names}
+use Rattle.mr_capacity.specs.Rows.{PairingRow}
 use Rattle.mr_capacity.specs.Same.{same_keys, same_further}
-use Rattle.mr_capacity.specs.Tables.{PairingRow, rows, is_row}
+use Rattle.mr_capacity.specs.Tables.{is_row}
 use Rattle.mr_jobfile.specs.declared.key.JobKey.{JobKey}
 use Rattle.mr_jobfile.specs.declared.key.JobKey.TheVariants as key
 use Rattle.mr_jobfile.specs.declared.values.Values.{Values}
 use Rattle.mr_jobfile.specs.Keys.{key_text}
-use Rattle.mr_jobfile.specs.Ranges.{is_text_job}
 use Rattle.mr_jobfile.specs.Forms.{number_in, kind_in, texts_in}
 
 -- what the table says of a key, by a reading of its value

@@ -21,6 +21,3 @@ pub use fault::{JobFault, fault_text};
 pub use job::Job;
 pub use key::JobKey;
 pub use read::{JOB_LIMIT, read_job};
-
-#[cfg(test)]
-mod tests;

@@ -1,6 +1,5 @@
 ghost use Rattle.std.specs.Prelude.{◌≡◌, IfSome, map, option_map};
-ghost use Rattle.mr_capacity.specs.Tables.{seen_row};
-ghost use Rattle.mr_jobfile.specs.Ranges.{is_text_job};
+ghost use Rattle.mr_capacity.specs.Rows.{seen_row};
 ghost use Rattle.mr_jobfile.specs.Values.{default_chunk, described, fits_row, has_further, is_there_exactly, keys_in};
 ghost use Rattle.mr_jobfile.specs.Allowed.{IsAllowed};
 ghost use Rattle.mr_jobfile.specs.Seen.{seen};
@@ -10,7 +9,7 @@ use crate::job::Job;
 use crate::values::Values;
 use mr_base::Patterns;
 use mr_capacity::{
-    CombinerKind, ContainerKind, Further, JobKind, KeyKind, PAIRINGS, Pairing, is_row,
+    CombinerKind, ContainerKind, Further, JobKind, KeyKind, PAIRINGS, Pairing, is_row, is_text_job,
 };
 use std::alloc::Global;
 
@@ -66,10 +65,10 @@ fn keys_in(
 fn default_chunk(job: JobKind) -> u32
     ensures { result ≡ default_chunk job }
 {
-    match job {
-        JobKind::WordCount | JobKind::FoldLines | JobKind::InvertedIndex | JobKind::StringMatch =>
-            DEFAULT_TEXT_CHUNK,
-        _ => DEFAULT_CHUNK,
+    if is_text_job(job) {
+        DEFAULT_TEXT_CHUNK
+    } else {
+        DEFAULT_CHUNK
     }
 }
 

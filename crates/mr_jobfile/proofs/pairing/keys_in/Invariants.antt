@@ -1,5 +1,5 @@
 use Rattle.std.proofs.Common.{◌≡◌, map, drop}
-use Rattle.mr_capacity.specs.Tables.{seen_row}
+use Rattle.mr_capacity.specs.Rows.{seen_row}
 use Rattle.mr_jobfile.specs.Values.{keys_in}
 use Rattle.mr_jobfile.proofs.pairing.keys_in.Given as goal
 
