@@ -1,6 +1,6 @@
 mod Emitted
 mod NextLine
 mod Driven
-mod Whole
 mod Fields
 mod Searching
+mod Whole

@@ -14,13 +14,14 @@ ghost use Rattle.mr_split.specs.Pieces.{ArePieces};
 ghost use Rattle.mr_split.specs.declared.boundary.Boundary.{Boundary};
 ghost use Rattle.mr_text.specs.Sent.{Sent, SentSome};
 
-use crate::driver::{LineJob, Lines, map_task};
+use crate::driver::{LineJob, Lines};
 use crate::field::FieldKey;
+use crate::slice_lines::SliceLines;
 use mr_base::{Key, Memory, NumKey, SliceKey, read_number};
 use mr_container::{Local, Mapper};
 use mr_kernels::field_edges;
 use mr_split::Pieces;
-use mr_text::EDGES;
+use mr_text::{EDGES, TextJob};
 use std::alloc::Global;
 
 /// Where a line ends without the byte 13 before its end.
@@ -159,14 +160,17 @@ fn emit_line<'a, K: FieldKey<'a>, L: Local<Key = K, Value = i64>>(
     put(pair, from as u64, block, out)
 }
 
-/// Folds the values of lines with byte keys: a line of two fields, of which the second is a number, is emitted as the pair of the two. A
-/// line without a field is passed over, and every other one is malformed at its first byte.
+/// The lines of a text that are pairs of a byte key and a number.
 #[derive(Drop)]
-pub struct FoldBytes<'a> {
-    lines: Lines<'a>,
+pub struct LinesOfBytes<'a> {
+    input: &'a [u8],
 }
 
-impl<'a> FoldBytes<'a> {
+/// Folds the values of lines with byte keys: a line of two fields, of which the second is a number, is emitted as the pair of the two. A
+/// line without a field is passed over, and every other one is malformed at its first byte.
+pub type FoldBytes<'a> = SliceLines<'a, Vec<u32>, LinesOfBytes<'a>>;
+
+impl<'a> SliceLines<'a, Vec<u32>, LinesOfBytes<'a>> {
     /// The job over this text, cut into these pieces. Takes no memory.
     pub fn new(input: &'a [u8], pieces: &'a Pieces) -> FoldBytes<'a>
         requires { ArePieces Boundary.Line input.now pieces.now }
@@ -177,21 +181,19 @@ impl<'a> FoldBytes<'a> {
         ensures whole { flat_map (⟦<FoldBytes<'a> as Mapper>⟧.task_emissions result)
             (range_with_len 0 (⟦<FoldBytes<'a> as Mapper>⟧.task_count result)) ≡ fold_lines_emissions bytes_key input.now }
     {
-        FoldBytes {
-            lines: Lines::new(input, pieces),
-        }
+        SliceLines::over(LinesOfBytes { input }, input, pieces)
     }
 }
 
-impl<'a> LineJob for FoldBytes<'a> {
+impl<'a> TextJob for LinesOfBytes<'a> {
+    ghost text = { λ j. j.input.now };
+}
+
+// It keeps the edges of the fields of a line.
+impl<'a> LineJob<Vec<u32>> for LinesOfBytes<'a> {
     type Key = SliceKey<'a>;
 
-    // The edges of the fields of a line.
-    type State = Vec<u32>;
-
-    ghost text = { λ j. j.lines.input.now };
-
-    ghost emits = { λ j. fold_lines_emits bytes_key j.lines.input.now };
+    ghost emits = { λ j. fold_lines_emits bytes_key j.input.now };
 
     ghost ready = { λ _ _ _ _. Unit {0} };
 
@@ -209,41 +211,20 @@ impl<'a> LineJob for FoldBytes<'a> {
         block: &mut Vec<(SliceKey<'a>, i64)>,
         out: &mut L,
     ) -> Result<(), Memory> {
-        emit_line(alloc, self.lines.input, from, to, edges, block, out)
+        emit_line(alloc, self.input, from, to, edges, block, out)
     }
 }
 
-impl<'a> Mapper for FoldBytes<'a> {
-    type Key = SliceKey<'a>;
-
-    type Value = i64;
-
-    ghost task_count = { λ m. length m.lines.pieces.now };
-
-    ghost task_emissions = { λ m t. tasks.task_emissions (fold_lines_emits bytes_key m.lines.input.now)
-        (items.line_places m.lines.input.now) (slice_index_or m.lines.pieces.now t (0, 0)) };
-
-    fn tasks(&self) -> u32 {
-        self.lines.pieces.len()
-    }
-
-    fn map<L: Local<Key = SliceKey<'a>, Value = i64>>(
-        &self,
-        alloc: Global,
-        task: u32,
-        out: &mut L,
-    ) -> Result<(), Memory> {
-        map_task(alloc, self, &self.lines, task, out)
-    }
+/// The lines of a text that are pairs of a number key and a number.
+#[derive(Drop)]
+pub struct LinesOfNumbers<'a> {
+    input: &'a [u8],
 }
 
 /// Folds the values of lines with number keys: the same, where the first field is a number too, and at least 0.
-#[derive(Drop)]
-pub struct FoldNumbers<'a> {
-    lines: Lines<'a>,
-}
+pub type FoldNumbers<'a> = Lines<'a, Vec<u32>, LinesOfNumbers<'a>>;
 
-impl<'a> FoldNumbers<'a> {
+impl<'a> Lines<'a, Vec<u32>, LinesOfNumbers<'a>> {
     /// The job over this text, cut into these pieces. Takes no memory.
     pub fn new(input: &'a [u8], pieces: &'a Pieces) -> FoldNumbers<'a>
         requires { ArePieces Boundary.Line input.now pieces.now }
@@ -254,21 +235,19 @@ impl<'a> FoldNumbers<'a> {
         ensures whole { flat_map (⟦<FoldNumbers<'a> as Mapper>⟧.task_emissions result)
             (range_with_len 0 (⟦<FoldNumbers<'a> as Mapper>⟧.task_count result)) ≡ fold_lines_emissions number_key input.now }
     {
-        FoldNumbers {
-            lines: Lines::new(input, pieces),
-        }
+        Lines::over(LinesOfNumbers { input }, input, pieces)
     }
 }
 
-impl<'a> LineJob for FoldNumbers<'a> {
+impl<'a> TextJob for LinesOfNumbers<'a> {
+    ghost text = { λ j. j.input.now };
+}
+
+// It keeps the edges of the fields of a line.
+impl<'a> LineJob<Vec<u32>> for LinesOfNumbers<'a> {
     type Key = NumKey;
 
-    // The edges of the fields of a line.
-    type State = Vec<u32>;
-
-    ghost text = { λ j. j.lines.input.now };
-
-    ghost emits = { λ j. fold_lines_emits number_key j.lines.input.now };
+    ghost emits = { λ j. fold_lines_emits number_key j.input.now };
 
     ghost ready = { λ _ _ _ _. Unit {0} };
 
@@ -286,30 +265,6 @@ impl<'a> LineJob for FoldNumbers<'a> {
         block: &mut Vec<(NumKey, i64)>,
         out: &mut L,
     ) -> Result<(), Memory> {
-        emit_line(alloc, self.lines.input, from, to, edges, block, out)
-    }
-}
-
-impl<'a> Mapper for FoldNumbers<'a> {
-    type Key = NumKey;
-
-    type Value = i64;
-
-    ghost task_count = { λ m. length m.lines.pieces.now };
-
-    ghost task_emissions = { λ m t. tasks.task_emissions (fold_lines_emits number_key m.lines.input.now)
-        (items.line_places m.lines.input.now) (slice_index_or m.lines.pieces.now t (0, 0)) };
-
-    fn tasks(&self) -> u32 {
-        self.lines.pieces.len()
-    }
-
-    fn map<L: Local<Key = NumKey, Value = i64>>(
-        &self,
-        alloc: Global,
-        task: u32,
-        out: &mut L,
-    ) -> Result<(), Memory> {
-        map_task(alloc, self, &self.lines, task, out)
+        emit_line(alloc, self.input, from, to, edges, block, out)
     }
 }

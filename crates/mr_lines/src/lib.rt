@@ -1,10 +1,11 @@
 //! The jobs over the lines of a text: folds of keyed lines, an index of words, and lines in which patterns stand.
 //!
-//! A mapper holds a text and its pieces: a task is a piece, and emits what the lines that begin in it emit, with their places in the
-//! whole text. One driver goes over the lines of a piece; a job says what a line emits.
+//! `LineJob` says of a job what a line emits, and `Lines` cuts the text into tasks: a task is a piece, and emits what the lines that begin
+//! in it emit, one after the other, with their places in the whole text. `SliceLines` is the same for keys that borrow the text. A job
+//! over lines is an `impl LineJob`, in whichever crate it stands.
 //!
-//! Its promise: `map` emits exactly what `mr_items` says of the lines of that piece, and all tasks together emit what the whole text does.
-//! It goes on after a malformed line.
+//! Its promise: a task emits exactly what the job says of the lines of its piece, which for the jobs here is what `mr_items` says, and all
+//! tasks together what those of the whole text do. It goes on after a malformed line.
 #![tactic(auto)]
 
 mod driver;
@@ -12,11 +13,11 @@ mod field;
 mod fold;
 mod index;
 mod search;
+mod slice_lines;
 mod string_match;
 
-pub use fold::{FoldBytes, FoldNumbers};
-pub use index::InvertedIndex;
+pub use driver::{LineJob, Lines, map_lines};
+pub use fold::{FoldBytes, FoldNumbers, LinesOfBytes, LinesOfNumbers};
+pub use index::{InvertedIndex, WordsOfLines};
+pub use slice_lines::SliceLines;
 pub use string_match::StringMatch;
-
-#[cfg(test)]
-mod tests;

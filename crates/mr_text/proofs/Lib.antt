@@ -4,3 +4,4 @@ pub mod Pairs
 mod Pushed
 pub mod Stretches
 pub mod Sending
+mod Whole

@@ -1,6 +1,6 @@
 -- The words of a stretch of a text, and where they stand in the whole of it.
 use Rattle.std.proofs.Common.{◌≡◌, inl, inr, ℕ, zero, suc, ◌+◌, ◌-◌, ◌<◌, ◌≤◌, ◌==◌, ◌&&◌, ◌||◌, Bool, true, false, not, cond, List, []}
-use Rattle.std.proofs.Common.{◌∷◌, ◌++◌, length, take, drop, map, get_or, refl, sym, ◌∙◌, ap, ap₂, arith, pos}
+use Rattle.std.proofs.Common.{◌∷◌, ◌++◌, length, take, drop, map, get_or, refl, sym, ◌∙◌, ap, ap₂, arith, ℤ}
 use Rattle.std.specs.Prelude.{filter, flat_map, slice_range}
 use Rattle.std.specs.List.{prefix_len, range_with_len}
 use Rattle.std.proofs.lemmas.Bool.{cases_lt, ne_eqb}
@@ -10,7 +10,7 @@ use Rattle.std.proofs.lemmas.List.Concat.{flat_map_single}
 use Rattle.std.proofs.lemmas.List.Elements.{filter-append}
 use Rattle.std.proofs.lemmas.List.Sums.{prefix_len-le-length}
 use Rattle.std.proofs.lemmas.Simd.{map-map}
-use Rattle.mr_defs.specs.Emission.{Pair}
+use Rattle.mr_defs.specs.Emission.{Emission, Pair}
 use Rattle.mr_defs.specs.Tasks.{task_emissions}
 use Rattle.mr_defs.proofs.Joins.{items_in-range, range-append}
 use Rattle.mr_items.specs.Runs.{begins, run_at}
@@ -185,14 +185,16 @@ one_word (x ∷ xs) some h =
     ∙ ap (λ ps. word_at (x ∷ xs) 0 ∷ map (word_at (x ∷ xs)) ps) (none_inside (x ∷ xs) h (length xs) 1 (omega arith) (omega arith))
     ∙ ap (λ l. map lower l ∷ []) (ap (λ n. take n (x ∷ xs)) (all_one (x ∷ xs) h) ∙ take_all (length (x ∷ xs)) (x ∷ xs) (omega arith))
 
--- what a piece of the text emits are the words of that stretch
-module _ {K : Type 0} (key : List ℕ → K) (text : List ℕ) (from to : ℕ) (order : from ≤ to) (inside : to ≤ length text)
+-- what a piece of the text emits are the pairs of the words of that stretch
+module _ {K : Type 0} (pair : List ℕ → K × ℤ) (text : List ℕ) (from to : ℕ) (order : from ≤ to) (inside : to ≤ length text)
     (starts : is_word_boundary text from ≡ true) (ends : is_word_boundary text to ≡ true) where
-  pub piece_words : word_emissions key (pos 1) (slice_range text from to)
-      ≡ task_emissions (word_emits key text) (word_places text) (from, to)
+  abbrev emission : List ℕ → Emission K ℤ
+  emission w = Pair (pair w).0 (pair w).1
+
+  pub piece_words : word_emissions pair (slice_range text from to)
+      ≡ task_emissions (word_emits pair text) (word_places text) (from, to)
   piece_words =
-      ap (map (λ w. Pair (key w) (pos 1))) (words_of_stretch text from to order inside starts ends)
-      ∙ map-map (λ w. Pair (key w) (pos 1)) (word_at text) (filter (begins is_word_byte text) (range_with_len from (to - from)))
-      ∙ sym
-      (flat_map_single (λ p. Pair (key (word_at text p)) (pos 1)) (filter (begins is_word_byte text) (range_with_len from (to - from))))
-      ∙ sym (ap (flat_map (word_emits key text)) (items_in-range from to (begins is_word_byte text) (length text) order inside))
+      ap (map emission) (words_of_stretch text from to order inside starts ends)
+      ∙ map-map emission (word_at text) (filter (begins is_word_byte text) (range_with_len from (to - from)))
+      ∙ sym (flat_map_single (λ p. emission (word_at text p)) (filter (begins is_word_byte text) (range_with_len from (to - from))))
+      ∙ sym (ap (flat_map (word_emits pair text)) (items_in-range from to (begins is_word_byte text) (length text) order inside))

@@ -1,4 +1,4 @@
-ghost use Rattle.std.specs.Prelude.{◌≡◌, ◌≢◌, ◌≤◌, ◌<◌, ◌+◌, ◌-◌, ◌++◌, ℕ, ℤ, List, All, length, negsuc, pos, slice_index, slice_range};
+ghost use Rattle.std.specs.Prelude.{◌≡◌, ◌≢◌, ◌≤◌, ◌<◌, ◌+◌, ◌-◌, ◌++◌, ℕ, All, length, negsuc, slice_index, slice_range};
 ghost use Rattle.std.specs.Prelude.{true, OnOk, OnErr};
 ghost use Rattle.mr_defs.specs.Folded.{limit};
 ghost use Rattle.mr_items.specs.Words as items;
@@ -6,7 +6,8 @@ ghost use Rattle.mr_container.specs.Block.{block_emissions};
 ghost use Rattle.mr_text.specs.Keyed.{word_pairs, word_emissions};
 ghost use Rattle.mr_text.specs.Sent.{Sent, SentSome};
 
-use mr_base::{Memory, TextKey};
+use crate::word_job::WordJob;
+use mr_base::{Key, Memory};
 use mr_container::Local;
 use mr_kernels::{is_word_byte, word_edges, word_end};
 use std::alloc::Global;
@@ -43,63 +44,65 @@ fn strip_end(text: &[u8], at: usize, end: usize) -> usize
     word_end(&text[..end], at + STRIP)
 }
 
-/// Puts each word of a strip into the block.
-fn push_words<'a, K: TextKey<'a>>(
+/// Puts the pair of each word of a strip into the block.
+fn push_words<K: Key, J: WordJob<Key = K>>(
     alloc: Global,
-    text: &'a [u8],
+    job: &J,
+    text: &[u8],
     from: usize,
     to: usize,
-    value: u64,
     edges: &mut [u32],
     block: &mut Vec<(K, i64)>,
 ) -> Result<(), Memory>
+    requires text { text.now ≡ J.text job.now }
     requires order { from < to }
     requires inside { to ≤ length text.now }
     requires long { 1024 < to - from → (k : ℕ) → from ≤ k → k < to → items.is_word_byte (slice_index text.now k) ≡ true }
-    requires value { value ≤ limit }
     requires room { length edges.old ≡ EDGES }
+    requires allowed { All (λ p. K.allowed p.0 × (p.1 ≢ negsuc limit)) block.old.items }
     ensures room { length edges.new ≡ EDGES }
-    ensures ok { OnOk result (block.new.items ≡ block.old.items ++ word_pairs K.of_text (pos value) (slice_range text.now from to)) }
+    ensures ok { OnOk result (block.new.items ≡ block.old.items ++ word_pairs (J.pair_of job.now) (slice_range text.now from to)) }
+    ensures allowed { OnOk result (All (λ p. K.allowed p.0 × (p.1 ≢ negsuc limit)) block.new.items) }
 {
     if to - from > STRIP {
-        block.push((K::part_of(alloc, text, from, to, true)?, value as i64))?;
+        block.push(job.pair(alloc, from, to)?)?;
         return Ok(());
     }
     let count = word_edges(text, from, to, edges);
     for i in 0..count / 2 {
         let start = from + edges[2 * i] as usize;
         let end = from + edges[2 * i + 1] as usize;
-        block.push((K::part_of(alloc, text, start, end, true)?, value as i64))?;
+        block.push(job.pair(alloc, start, end)?)?;
     }
     Ok(())
 }
 
-/// Emits each word of a stretch between two word boundaries, with this value, by way of the block: where it holds enough pairs it is handed
-/// over.
-pub fn emit_words<'a, K: TextKey<'a>, L: Local<Key = K, Value = i64>>(
+/// Emits the pair of each word of a stretch between two word boundaries of the job's text, by way of the block: where it holds enough
+/// pairs it is handed over.
+pub fn emit_words<K: Key, J: WordJob<Key = K>, L: Local<Key = K, Value = i64>>(
     alloc: Global,
-    text: &'a [u8],
+    job: &J,
+    text: &[u8],
     from: usize,
     to: usize,
-    value: u64,
     edges: &mut [u32],
     block: &mut Vec<(K, i64)>,
     out: &mut L,
 ) -> Result<(), Memory>
+    requires text { text.now ≡ J.text job.now }
     requires order { from ≤ to }
     requires inside { to ≤ length text.now }
     requires starts { items.is_word_boundary text.now from ≡ true }
     requires ends { items.is_word_boundary text.now to ≡ true }
-    requires value { value ≤ limit }
     requires room { length edges.old ≡ EDGES }
     requires allowed { All (λ p. K.allowed p.0 × (p.1 ≢ negsuc limit)) block.old.items }
     ensures ok { OnOk result
         (Sent L.stands out.old out.new
-        (block_emissions block.old.items ++ word_emissions K.of_text (pos value) (slice_range text.now from to))
+        (block_emissions block.old.items ++ word_emissions (J.pair_of job.now) (slice_range text.now from to))
         (block_emissions block.new.items)) }
     ensures err { OnErr result
         (SentSome L.stands out.old out.new
-        (block_emissions block.old.items ++ word_emissions K.of_text (pos value) (slice_range text.now from to))) }
+        (block_emissions block.old.items ++ word_emissions (J.pair_of job.now) (slice_range text.now from to))) }
     ensures allowed { OnOk result (All (λ p. K.allowed p.0 × (p.1 ≢ negsuc limit)) block.new.items) }
     ensures room { length edges.new ≡ EDGES }
     ensures origin { L.same_origin out.old out.new }
@@ -107,7 +110,7 @@ pub fn emit_words<'a, K: TextKey<'a>, L: Local<Key = K, Value = i64>>(
     let mut at = from;
     while at < to {
         let next = strip_end(text, at, to);
-        push_words(alloc, text, at, next, value, edges, block)?;
+        push_words(alloc, job, text, at, next, edges, block)?;
         if block.len() >= BLOCK {
             out.emit_block(block)?;
         }

@@ -57,7 +57,7 @@ line-requires-clause-within g c =
     let more : c.loop-at.at < length bs = omega (arith, c.loop-at-test.true, is.inside) in
     let within = next_within bs c.loop-at.at more c.loop-at.invariant.between end c.line_end-end.ensures.place c.piece.inside.end
     c.loop-at-test.true is.inside is.ends in
-    let size : length bs ≡ length (g.J.LineJob.text c.args.job.now) = ap length c.requires.text in (
+    let size : length bs ≡ length (g.J.TextJob.text c.args.job.now) = ap length c.requires.text in (
       omega (arith, within, inside bs c.loop-at.at more c.loop-at.invariant.between end c.line_end-end.ensures.place),
       omega (arith, is.inside, size),
     )

@@ -1,4 +1,4 @@
-use Rattle.std.proofs.Common.{◌≡◌, ◌≢◌, ◌≤◌, ◌-◌, ◌++◌, true, length, negsuc, pos}
+use Rattle.std.proofs.Common.{◌≡◌, ◌≢◌, ◌≤◌, ◌-◌, ◌++◌, true, length, negsuc}
 use Rattle.std.specs.List.{All}
 use Rattle.std.specs.Prelude.{slice_range}
 use Rattle.mr_defs.specs.Folded.{limit}
@@ -16,7 +16,7 @@ invariant-loop-at g l = record {
   room : length l.edges ≡ 1088;
   allowed : All (λ p. g.K.Key.allowed p.0 × (p.1 ≢ negsuc limit)) l.block.items;
   sent : Sent g.L.Local.stands l.initial.out l.out
-      (block_emissions l.initial.block.items ++ word_emissions g.K.TextKey.of_text (pos l.value) (slice_range l.text l.from l.at))
+      (block_emissions l.initial.block.items ++ word_emissions (g.J.WordJob.pair_of l.job) (slice_range l.text l.from l.at))
       (block_emissions l.block.items);
   origin : g.L.Local.same_origin l.initial.out l.out;
 }

@@ -1,4 +1,4 @@
-use Rattle.std.proofs.Common.{◌≡◌, ◌++◌, ℕ, ℤ, List, pos, ◌∙◌, ap, subst, arith}
+use Rattle.std.proofs.Common.{◌≡◌, ◌++◌, ℕ, ℤ, List, ◌∙◌, ap, subst, arith}
 use Rattle.std.specs.Prelude.{slice_range}
 use Rattle.std.proofs.lemmas.Result.{err_from_is_err_and}
 use Rattle.mr_defs.specs.Emission.{Emission}
@@ -17,21 +17,24 @@ module _ (g : Over) (c : After-emit_words g) where
   abbrev text : List ℕ
   text = c.args.text.now
 
-  abbrev all : List (Emission g.row.K.Denot ℤ)
-  all = task_emissions (word_emits g.K.TextKey.of_text text) (word_places text) (c.args.from, c.args.to)
+  abbrev pair : List ℕ → g.row.K.Denot × ℤ
+  pair = g.J.WordJob.pair_of c.args.job.now
 
-  are : block_emissions c.in_ok-block.block.items ++ word_emissions g.K.TextKey.of_text (pos 1) (slice_range text c.args.from c.args.to)
+  abbrev all : List (Emission g.row.K.Denot ℤ)
+  all = task_emissions (word_emits pair text) (word_places text) (c.args.from, c.args.to)
+
+  are : block_emissions c.in_ok-block.block.items ++ word_emissions pair (slice_range text c.args.from c.args.to)
       ≡ all
   are =
-      ap (λ items. block_emissions items ++ word_emissions g.K.TextKey.of_text (pos 1) (slice_range text c.args.from c.args.to))
+      ap (λ items. block_emissions items ++ word_emissions pair (slice_range text c.args.from c.args.to))
       c.in_ok-block.ensures.items
-      ∙ piece_words g.K.TextKey.of_text text c.args.from c.args.to
+      ∙ piece_words pair text c.args.from c.args.to
       (omega (arith, c.requires.piece.some)) c.requires.piece.inside c.requires.piece.starts c.requires.piece.ends
 
   -- what waits behind the last word
   sent : (left : List (Emission g.row.K.Denot ℤ))
       → Sent g.L.Local.stands c.args.out.now c.emit_words.new.out
-      (block_emissions c.in_ok-block.block.items ++ word_emissions g.K.TextKey.of_text (pos 1) (slice_range text c.args.from c.args.to))
+      (block_emissions c.in_ok-block.block.items ++ word_emissions pair (slice_range text c.args.from c.args.to))
       left
       → Sent g.L.Local.stands c.args.out.now c.emit_words.new.out all left
   sent left = subst (λ es. Sent g.L.Local.stands c.args.out.now c.emit_words.new.out es left) are
