@@ -1,10 +1,9 @@
 mod Sharing
 mod Merging
 mod CommonRounds
-mod SameRound
 mod OneRound
 mod GeneratedRows
-mod Pictured
+mod Inputs
 mod Passed
 mod Reports
 mod Outputs

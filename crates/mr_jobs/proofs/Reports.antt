@@ -1,13 +1,10 @@
--- What the workers did over the pieces of a text makes a lawful report of its job.
+-- What the workers did over the stretches of some items makes the only round of an output.
 use Rattle.std.proofs.Common.{◌≡◌, ℕ, Bool, List, Ok, Err, length, sym, subst}
 use Rattle.std.specs.Prelude.{IfOk}
 use Rattle.std.specs.declared.result.Result.{Result}
 use Rattle.std.specs.declared.cmp.Ordering.{Ordering}
-use Rattle.mr_capacity.specs.declared.kinds.JobKind.{JobKind}
 use Rattle.mr_defs.specs.Emission.{Emission}
 use Rattle.mr_defs.specs.Tasks.{Stretch}
-use Rattle.mr_jobfile.specs.Values.{SeenJob}
-use Rattle.mr_jobs.specs.LawfulReport.{IsLawfulOf, IsLawfulReport}
 use Rattle.mr_jobs.specs.Shares.{AreOnlyRound, HasShares, IsLawfulRound, task_at}
 use Rattle.mr_jobs.specs.declared.phases.Round.{Round}
 use Rattle.mr_jobs.specs.declared.output.Output.{Output}
@@ -28,10 +25,3 @@ only_shares R inside workers tasks own emits items stretches (Ok r) (Ok o) has l
     )
 only_shares R inside workers tasks own emits items stretches (Err e) (Ok o) has lawful count each = absurd has
 only_shares R inside workers tasks own emits items stretches round (Err f) has lawful count each = tt
-
--- the line of a job's kind is the report of the job
-pub report_of : {E : Type 0} (j : SeenJob) (inputs : List (List ℕ)) (workers : ℕ) (k : JobKind) (result : Result Output E) → j.job ≡ k
-    → IfOk result (λ o. IsLawfulOf j inputs workers (rounds_seen o.rounds.items) k)
-    → IfOk result (λ o. IsLawfulReport j inputs workers (rounds_seen o.rounds.items))
-report_of j inputs workers k result is line = subst (λ k. IfOk result (λ o. IsLawfulOf j inputs workers (rounds_seen o.rounds.items) k))
-    (sym is) line

@@ -2,8 +2,8 @@ pub mod Ending
 pub mod Meets
 pub mod Shares
 pub mod RoundOf
-pub mod JobEnding
-pub mod LawfulReport
+pub mod Meaning
+pub mod Jobs
 pub mod Outputs
 pub mod Generated
 pub mod Sequels

@@ -10,7 +10,7 @@ use Rattle.mr_defs.specs.Rounds.{round_of}
 use Rattle.mr_defs.specs.Tasks.{spans_of}
 use Rattle.mr_defs.specs.declared.Fault.{Fault}
 use Rattle.mr_jobs.specs.Meets.{MeetsRows}
-use Rattle.mr_jobs.specs.Shares.{IsLawfulRound, task_at}
+use Rattle.mr_jobs.specs.Shares.{IsLawfulRound, all_of, task_at}
 use Rattle.mr_jobs.specs.declared.phases.Round.{Round}
 use Rattle.mr_merge.specs.Merged.{CanMerge}
 use Rattle.mr_report.specs.Shown.{workers_of}
@@ -32,7 +32,7 @@ IsRoundOfTasks R inside shared folded workers tasks emits =
 
 -- the round of what so many items emit under number keys, in spans
 abbrev pub IsRoundOfSpans : {V : Type 0} → (ℕ → Bool) → Bool → (List V → Option Answer) → ℕ → ℕ → ℕ → (ℕ → List (Emission ℕ V))
-    → List (Emission ℕ V) → Result (Round ℕ) (Stop (Fault ℕ)) → Type 0
+    → Result (Round ℕ) (Stop (Fault ℕ)) → Type 0
 IsRoundOfSpans inside shared folded workers chunk count emits =
     IsRoundOf nat_cmp inside shared folded workers (length (spans_of chunk count))
-    (task_at emits (range_with_len 0 count) (spans_of chunk count))
+    (task_at emits (range_with_len 0 count) (spans_of chunk count)) (all_of emits count)

@@ -36,6 +36,10 @@ module _ {K V : Type 0} (R : K → K → Ordering) (inside : K → Bool) where
 abbrev pub task_at : {E : Type 0} → (ℕ → List E) → List ℕ → List Stretch → ℕ → List E
 task_at emits items stretches t = task_emissions emits items (slice_index_or stretches t (0, 0))
 
+-- what so many items emit
+abbrev pub all_of : {E : Type 0} → (ℕ → List E) → ℕ → List E
+all_of emits count = flat_map emits (range_with_len 0 count)
+
 -- so many workers took each span of so many items once, which stand under number keys
 abbrev pub IsSpanRound : {V : Type 0} → (ℕ → Bool) → ℕ → ℕ → ℕ → (ℕ → List (Emission ℕ V)) → List Work → Type 0
 IsSpanRound inside workers chunk count emits =

@@ -1,9 +1,9 @@
-ghost use Rattle.std.specs.Prelude.{◌≡◌, ◌≤◌, ◌<◌, ◌+◌, [], ℕ, All, IfOk, Ok, codes, length, slice_index_or};
+ghost use Rattle.std.specs.Prelude.{◌≡◌, ◌≤◌, ◌<◌, ◌+◌, [], ℕ, All, IfOk, Ok, length, slice_index_or};
 ghost use Rattle.mr_defs.specs.Limits.{input_limit};
 ghost use Rattle.mr_base.specs.declared.status.Status.TheVariants as status;
 ghost use Rattle.mr_items.specs.FaultLines.{bitmap_line, bitmap_name, grid_line, input_line};
 ghost use Rattle.mr_items.specs.Grid.{columns_of, grid_of};
-ghost use Rattle.mr_jobs.specs.JobEnding.{gridded};
+ghost use Rattle.mr_jobs.specs.Jobs.{gridded};
 ghost use Rattle.mr_jobs.specs.Meets.{IsOfInputs, MeetsSeen};
 
 use crate::refusal::{Refusal, input_words, offset_words};

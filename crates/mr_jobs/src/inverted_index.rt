@@ -1,6 +1,6 @@
 ghost use Rattle.std.specs.Prelude.{◌≡◌, ◌≤◌, All, false, length};
 ghost use Rattle.mr_capacity.specs.Folds.{folded};
-ghost use Rattle.mr_capacity.specs.declared.kinds.JobKind.TheVariants as kind;
+ghost use Rattle.mr_capacity.specs.declared.jobs.JobKind.TheVariants as kind;
 ghost use Rattle.mr_defs.specs.Limits.{input_limit};
 ghost use Rattle.mr_defs.specs.Tasks.{most_tasks};
 ghost use Rattle.mr_items.specs.Keys.{all_inside};

@@ -1,18 +1,16 @@
-ghost use Rattle.std.specs.Prelude.{◌≡◌, ◌≤◌, [], All, IfOk, false, length};
-ghost use Rattle.mr_capacity.specs.declared.kinds.JobKind.TheVariants as kind;
+ghost use Rattle.std.specs.Prelude.{◌≡◌, ◌≤◌, All, false, length};
+ghost use Rattle.mr_capacity.specs.declared.jobs.JobKind.TheVariants as kind;
 ghost use Rattle.mr_defs.specs.Folded.{vecsum_folded};
 ghost use Rattle.mr_defs.specs.Limits.{input_limit};
 ghost use Rattle.mr_items.specs.Grid.{columns_of};
-ghost use Rattle.mr_items.specs.KMeans.{kmeans_emits, kmeans_emissions, kmeans_next};
+ghost use Rattle.mr_items.specs.KMeans.{kmeans_emits, kmeans_next};
 ghost use Rattle.mr_jobfile.specs.Seen.{seen};
-ghost use Rattle.mr_jobs.specs.JobEnding.{inside_of, is_shared, kmeans_ending};
-ghost use Rattle.mr_jobs.specs.LawfulReport as report;
-ghost use Rattle.mr_jobs.specs.Meets.{IsOfInputs, MeetsSeen};
-ghost use Rattle.mr_jobs.specs.Outputs.{IsJobOutput};
+ghost use Rattle.mr_jobs.specs.Meaning.{inside_of, is_shared};
+ghost use Rattle.mr_jobs.specs.Jobs as meaning;
+ghost use Rattle.mr_jobs.specs.Outputs.{IsJobOutput, IsOutputOf};
 ghost use Rattle.mr_jobs.specs.RoundOf.{IsRoundOfSpans};
 ghost use Rattle.mr_numeric.specs.Grids.{IsEven};
 ghost use Rattle.mr_numeric.specs.Sums.{AreMeans};
-ghost use Rattle.mr_report.specs.Shown.{rounds_seen};
 
 use crate::input::{grid_input, refused_input};
 use crate::output::Output;
@@ -66,8 +64,7 @@ fn round_from<T: Threads + Sync, G: Gate + Sync>(
     requires few { length grid.now ≤ input_limit }
     requires fit { AreMeans (columns_of grid.now) means.now }
     ensures { IsRoundOfSpans (inside_of job.now.container job.now.capacity) false vecsum_folded
-        workers.now.count job.now.chunk (length grid.now) (kmeans_emits means.now grid.now)
-        (kmeans_emissions means.now grid.now) result }
+        workers.now.count job.now.chunk (length grid.now) (kmeans_emits means.now grid.now) result }
 {
     let mapper = KMeans::new(grid, means, spans(grid.rows(), job.chunk));
     number_round::<T, G, KMeans, VecSum, Plain>(workers, job, &mapper)
@@ -84,8 +81,7 @@ fn round_in<T: Threads + Sync, G: Gate + Sync>(
     requires few { length grid.now ≤ input_limit }
     requires fit { AreMeans (columns_of grid.now) moving.now.means }
     ensures { IsRoundOfSpans (inside_of job.now.container job.now.capacity) false vecsum_folded
-        workers.now.count job.now.chunk (length grid.now) (kmeans_emits moving.now.means grid.now)
-        (kmeans_emissions moving.now.means grid.now) result }
+        workers.now.count job.now.chunk (length grid.now) (kmeans_emits moving.now.means grid.now) result }
 {
     round_from(workers, job, grid, &moving.means)
 }
@@ -102,8 +98,6 @@ impl<'a> Rounds for Points<'a> {
     ghost folded = { vecsum_folded };
 
     ghost emits = { λ p s i. kmeans_emits s.means p.grid.now i };
-
-    ghost emissions = { λ p s. kmeans_emissions s.means p.grid.now };
 
     ghost next = { λ p s rows. kmeans_next s rows };
 
@@ -133,9 +127,7 @@ fn moved<T: Threads + Sync, G: Gate + Sync>(
     requires kind { job.now.job ≡ kind.KMeans }
     requires even { IsEven grid.now }
     requires few { length grid.now ≤ input_limit }
-    ensures ending { MeetsSeen (λ o. o.text) (kmeans_ending (seen job.now) grid.now) result }
-    ensures of_inputs { IsOfInputs result }
-    ensures shares { IfOk result (λ o. report.Moves (seen job.now) [] workers.now.count (rounds_seen o.rounds.items) grid.now) }
+    ensures { IsOutputOf (seen job.now) (meaning.clusters (seen job.now) grid.now) workers.now.count result }
 {
     if grid.rows() < u64::from(job.clusters) {
         return Err(Stop::Refused(refused_input(workers.alloc, 1, b"shape")?));

@@ -1,7 +1,7 @@
 ghost use Rattle.std.specs.Prelude.{◌≡◌, ◌≤◌, All, IfOk, decimal, false, length, true};
 ghost use Rattle.std.specs.List.{range_with_len};
 ghost use Rattle.std.specs.Ordering.{nat_cmp};
-ghost use Rattle.mr_capacity.specs.declared.kinds.JobKind.TheVariants as kind;
+ghost use Rattle.mr_capacity.specs.declared.jobs.JobKind.TheVariants as kind;
 ghost use Rattle.mr_defs.specs.Folded.{sum_folded};
 ghost use Rattle.mr_defs.specs.Limits.{input_limit};
 ghost use Rattle.mr_defs.specs.Rounds.{round_of};
@@ -9,9 +9,10 @@ ghost use Rattle.mr_defs.specs.Tasks.{spans_of};
 ghost use Rattle.mr_items.specs.LinearRegression as items;
 ghost use Rattle.mr_jobfile.specs.Seen.{seen};
 ghost use Rattle.mr_jobs.specs.Ending.{ended_by};
-ghost use Rattle.mr_jobs.specs.JobEnding.{inside_of, is_shared, regression_ending};
+ghost use Rattle.mr_jobs.specs.Meaning.{inside_of, is_shared};
+ghost use Rattle.mr_jobs.specs.Jobs as meaning;
 ghost use Rattle.mr_jobs.specs.Meets.{IsOfInputs, MeetsSeen, texted};
-ghost use Rattle.mr_jobs.specs.Outputs.{IsJobOutput};
+ghost use Rattle.mr_jobs.specs.Outputs.{IsJobOutput, IsOutputOf};
 ghost use Rattle.mr_jobs.specs.RoundOf.{IsRoundOfSpans};
 ghost use Rattle.mr_jobs.specs.Shares.{AreOnlyRound};
 ghost use Rattle.mr_report.specs.Shown.{rounds_seen};
@@ -43,8 +44,7 @@ fn sums<T: Threads + Sync, G: Gate + Sync>(
     requires shape { items.is_regression_shape grid.now ≡ true }
     requires few { length grid.now ≤ input_limit }
     ensures { IsRoundOfSpans (inside_of job.now.container job.now.capacity) (is_shared job.now.container) sum_folded
-        workers.now.count job.now.chunk (length grid.now) (items.linear_regression_emits grid.now)
-        (items.linear_regression_emissions grid.now) result }
+        workers.now.count job.now.chunk (length grid.now) (items.linear_regression_emits grid.now) result }
 {
     let mapper = Regression::new(grid, spans(grid.rows(), job.chunk));
     number_round::<T, G, Regression, Sum, Plain>(workers, job, &mapper)
@@ -87,11 +87,7 @@ fn line_through<T: Threads + Sync, G: Gate + Sync>(
 ) -> Result<Output, Stop<Refusal>>
     requires kind { job.now.job ≡ kind.LinearRegression }
     requires few { length grid.now ≤ input_limit }
-    ensures ending { MeetsSeen (λ o. o.text) (regression_ending (seen job.now) grid.now) result }
-    ensures of_inputs { IsOfInputs result }
-    ensures shares { IfOk result (λ o. AreOnlyRound nat_cmp (inside_of job.now.container job.now.capacity) workers.now.count
-        (items.linear_regression_emits grid.now) (range_with_len 0 (length grid.now)) (spans_of job.now.chunk (length grid.now))
-        (rounds_seen o.rounds.items)) }
+    ensures { IsOutputOf (seen job.now) (meaning.regression (seen job.now) grid.now) workers.now.count result }
 {
     let fits = grid.rows() == 0 || grid.columns() == 2;
     if !fits {

@@ -1,20 +1,16 @@
-ghost use Rattle.std.specs.Prelude.{◌≡◌, ◌≤◌, ◌*◌, All, IfOk, decimal, length, true};
-ghost use Rattle.std.specs.List.{range_with_len};
+ghost use Rattle.std.specs.Prelude.{◌≡◌, ◌≤◌, ◌*◌, All, length, true};
 ghost use Rattle.std.specs.Ordering.{nat_cmp};
 ghost use Rattle.mr_capacity.specs.Folds.{folded};
-ghost use Rattle.mr_capacity.specs.declared.kinds.JobKind.TheVariants as kind;
+ghost use Rattle.mr_capacity.specs.declared.jobs.JobKind.TheVariants as kind;
 ghost use Rattle.mr_defs.specs.Limits.{input_limit};
-ghost use Rattle.mr_defs.specs.Tasks.{most_tasks, spans_of};
+ghost use Rattle.mr_defs.specs.Tasks.{most_tasks};
 ghost use Rattle.mr_items.specs.Grid.{columns_of};
-ghost use Rattle.mr_items.specs.MatrixProduct.{is_product_shape, matrix_product_emits, matrix_product_emissions};
-ghost use Rattle.mr_items.specs.Texts.{rows_text};
+ghost use Rattle.mr_items.specs.MatrixProduct.{is_product_shape};
 ghost use Rattle.mr_jobfile.specs.Seen.{seen};
-ghost use Rattle.mr_jobs.specs.JobEnding.{inside_of, is_shared, number_keys, product_ending};
-ghost use Rattle.mr_jobs.specs.Meets.{IsOfInputs, MeetsSeen};
-ghost use Rattle.mr_jobs.specs.Outputs.{IsJobOutput};
+ghost use Rattle.mr_jobs.specs.Meaning.{inside_of, is_shared};
+ghost use Rattle.mr_jobs.specs.Jobs as meaning;
+ghost use Rattle.mr_jobs.specs.Outputs.{IsJobOutput, IsOutputOf};
 ghost use Rattle.mr_jobs.specs.RoundOf.{IsRoundOfTasks};
-ghost use Rattle.mr_jobs.specs.Shares.{AreOnlyRound};
-ghost use Rattle.mr_report.specs.Shown.{rounds_seen};
 
 use crate::input::{grid_input, refused_input};
 use crate::output::{Output, rows_output};
@@ -75,13 +71,7 @@ fn multiplied<T: Threads + Sync, G: Gate + Sync>(
     requires shape { is_product_shape left.now right.now ≡ true }
     requires few { length right.now ≤ input_limit }
     requires full { columns_of right.now ≡ 0 → length right.now ≡ 0 }
-    ensures ending { MeetsSeen (λ o. o.text) (number_keys (seen job.now) (rows_text decimal)
-        (matrix_product_emissions left.now right.now)) result }
-    ensures of_inputs { IsOfInputs result }
-    ensures shares { IfOk result (λ o. AreOnlyRound nat_cmp (inside_of job.now.container job.now.capacity) workers.now.count
-        (matrix_product_emits left.now right.now)
-        (range_with_len 0 (length left.now * columns_of right.now)) (spans_of job.now.chunk (length left.now * columns_of right.now))
-        (rounds_seen o.rounds.items)) }
+    ensures { IsOutputOf (seen job.now) (meaning.elements (seen job.now) left.now right.now) workers.now.count result }
 {
     let turned = right.turned(workers.alloc)?;
     let spans = spans(elements(left, right), job.chunk);
@@ -108,12 +98,7 @@ fn product<T: Threads + Sync, G: Gate + Sync>(
     requires left { length left.now ≤ input_limit }
     requires right { length right.now ≤ input_limit }
     requires full { columns_of right.now ≡ 0 → length right.now ≡ 0 }
-    ensures ending { MeetsSeen (λ o. o.text) (product_ending (seen job.now) left.now right.now) result }
-    ensures of_inputs { IsOfInputs result }
-    ensures shares { IfOk result (λ o. AreOnlyRound nat_cmp (inside_of job.now.container job.now.capacity) workers.now.count
-        (matrix_product_emits left.now right.now)
-        (range_with_len 0 (length left.now * columns_of right.now)) (spans_of job.now.chunk (length left.now * columns_of right.now))
-        (rounds_seen o.rounds.items)) }
+    ensures { IsOutputOf (seen job.now) (meaning.product (seen job.now) left.now right.now) workers.now.count result }
 {
     if !fit(left, right) {
         return Err(Stop::Refused(refused_input(workers.alloc, 2, b"shape")?));

@@ -1,18 +1,16 @@
-ghost use Rattle.std.specs.Prelude.{◌≡◌, ◌≤◌, [], All, IfOk, false, length, nat_abs};
-ghost use Rattle.mr_capacity.specs.declared.kinds.JobKind.TheVariants as kind;
+ghost use Rattle.std.specs.Prelude.{◌≡◌, ◌≤◌, All, false, length, nat_abs};
+ghost use Rattle.mr_capacity.specs.declared.jobs.JobKind.TheVariants as kind;
 ghost use Rattle.mr_defs.specs.Folded.{sum_folded};
 ghost use Rattle.mr_defs.specs.Limits.{greatest_element, input_limit};
 ghost use Rattle.mr_items.specs.Grid.{columns_of};
-ghost use Rattle.mr_items.specs.Pca.{column_emits, column_emissions, pca_emissions, pca_next, spread_emits, spread_emissions};
+ghost use Rattle.mr_items.specs.Pca.{column_emits, pca_next, spread_emits};
 ghost use Rattle.mr_jobfile.specs.Seen.{seen};
-ghost use Rattle.mr_jobs.specs.JobEnding.{inside_of, is_shared, pca_ending};
-ghost use Rattle.mr_jobs.specs.LawfulReport as report;
-ghost use Rattle.mr_jobs.specs.Meets.{IsOfInputs, MeetsSeen};
-ghost use Rattle.mr_jobs.specs.Outputs.{IsJobOutput};
+ghost use Rattle.mr_jobs.specs.Meaning.{inside_of, is_shared};
+ghost use Rattle.mr_jobs.specs.Jobs as meaning;
+ghost use Rattle.mr_jobs.specs.Outputs.{IsJobOutput, IsOutputOf};
 ghost use Rattle.mr_jobs.specs.Passes.{IsPassOver};
 ghost use Rattle.mr_jobs.specs.RoundOf.{IsRoundOfSpans};
 ghost use Rattle.mr_numeric.specs.Grids.{IsEven};
-ghost use Rattle.mr_report.specs.Shown.{rounds_seen};
 
 use crate::input::grid_input;
 use crate::output::Output;
@@ -69,8 +67,7 @@ fn sums<T: Threads + Sync, G: Gate + Sync>(
     requires own { is_shared job.now.container ≡ false }
     requires few { length grid.now ≤ input_limit }
     ensures { IsRoundOfSpans (inside_of job.now.container job.now.capacity) false sum_folded
-        workers.now.count job.now.chunk (length grid.now) (column_emits grid.now)
-        (column_emissions grid.now) result }
+        workers.now.count job.now.chunk (length grid.now) (column_emits grid.now) result }
 {
     let mapper = ColumnSums::new(grid, spans(grid.rows(), job.chunk));
     number_round::<T, G, ColumnSums, Sum, Plain>(workers, job, &mapper)
@@ -89,8 +86,7 @@ fn products<T: Threads + Sync, G: Gate + Sync>(
     requires each { length means.now ≡ columns_of grid.now }
     requires small { All (λ z. nat_abs z ≤ greatest_element) means.now }
     ensures { IsRoundOfSpans (inside_of job.now.container job.now.capacity) false sum_folded
-        workers.now.count job.now.chunk (length grid.now) (spread_emits means.now grid.now)
-        (spread_emissions means.now grid.now) result }
+        workers.now.count job.now.chunk (length grid.now) (spread_emits means.now grid.now) result }
 {
     let mapper = Spread::new(grid, means, spans(grid.rows(), job.chunk));
     number_round::<T, G, Spread, Sum, Plain>(workers, job, &mapper)
@@ -108,8 +104,7 @@ fn pass_over<T: Threads + Sync, G: Gate + Sync>(
     requires narrow { columns_of grid.now ≤ 1024 }
     requires fits { IsPassOver grid.now pass.now }
     ensures { IsRoundOfSpans (inside_of job.now.container job.now.capacity) false sum_folded
-        workers.now.count job.now.chunk (length grid.now) (report.pca_emits grid.now pass.now)
-        (pca_emissions grid.now pass.now) result }
+        workers.now.count job.now.chunk (length grid.now) (meaning.pca_emits grid.now pass.now) result }
 {
     match &pass.means {
         Some(means) => products(workers, job, grid, means),
@@ -128,9 +123,7 @@ impl<'a> Rounds for Columns<'a> {
 
     ghost folded = { sum_folded };
 
-    ghost emits = { λ c s i. report.pca_emits c.grid.now s i };
-
-    ghost emissions = { λ c s. pca_emissions c.grid.now s };
+    ghost emits = { λ c s i. meaning.pca_emits c.grid.now s i };
 
     ghost next = { λ c s rows. pca_next c.grid.now s rows };
 
@@ -160,9 +153,7 @@ fn passes<T: Threads + Sync, G: Gate + Sync>(
     requires even { IsEven grid.now }
     requires few { length grid.now ≤ input_limit }
     requires narrow { columns_of grid.now ≤ 1024 }
-    ensures ending { MeetsSeen (λ o. o.text) (pca_ending (seen job.now) grid.now) result }
-    ensures of_inputs { IsOfInputs result }
-    ensures shares { IfOk result (λ o. report.Passes (seen job.now) [] workers.now.count (rounds_seen o.rounds.items) grid.now) }
+    ensures { IsOutputOf (seen job.now) (meaning.passes (seen job.now) grid.now) workers.now.count result }
 {
     let first = Pass { means: None };
     let round = |pass: &Pass| -> Result<Round<NumKey>, Stop<Fault<NumKey>>>

@@ -4,7 +4,7 @@ ghost use Rattle.mr_capacity.specs.Folds.{folded};
 ghost use Rattle.mr_defs.specs.Limits.{greatest_capacity};
 ghost use Rattle.mr_defs.specs.Tasks.{most_tasks};
 ghost use Rattle.mr_items.specs.Keys.{all_inside, below};
-ghost use Rattle.mr_jobs.specs.JobEnding.{inside_of, is_shared};
+ghost use Rattle.mr_jobs.specs.Meaning.{inside_of, is_shared};
 ghost use Rattle.mr_jobs.specs.RoundOf.{IsRoundOfTasks};
 
 use crate::phases::{Round, run_round};

@@ -6,11 +6,11 @@ ghost use Rattle.mr_defs.specs.Emission.{Answer, Emission, Row};
 ghost use Rattle.mr_defs.specs.Rounds.{Next, round_of, rounds_of, states_of};
 ghost use Rattle.mr_defs.specs.Tasks.{spans_of};
 ghost use Rattle.mr_jobs.specs.Ending.{ended_by};
-ghost use Rattle.mr_jobs.specs.JobEnding.{inside_of};
+ghost use Rattle.mr_jobs.specs.Meaning.{inside_of};
 ghost use Rattle.mr_jobs.specs.Meets.{IsOfInputs, MeetsSeen, texted};
 ghost use Rattle.mr_jobs.specs.Sequels.{LeadsTo, next_of};
 ghost use Rattle.mr_jobs.specs.RoundOf.{IsRoundOfSpans};
-ghost use Rattle.mr_jobs.specs.Shares.{AreLawfulRounds, IsSpanRound, task_at};
+ghost use Rattle.mr_jobs.specs.Shares.{AreLawfulRounds, IsSpanRound, all_of, task_at};
 ghost use Rattle.mr_report.specs.Shown.{rounds_seen, workers_of};
 
 use crate::output::Output;
@@ -47,10 +47,8 @@ pub(crate) trait Rounds {
     /// What the values of a key fold to.
     ghost folded: { List Self.Value → Option Answer };
 
-    /// What an item emits in a state, and what all of them do.
+    /// What an item emits in a state.
     ghost emits: { Self → Self.State → ℕ → List (Emission ℕ Self.Value) };
-
-    ghost emissions: { Self → Self.State → List (Emission ℕ Self.Value) };
 
     /// What the rows of a round in a state lead to.
     ghost next: { Self → Self.State → List (Row ℕ) → Next Self.State };
@@ -63,7 +61,8 @@ pub(crate) trait Rounds {
         rows: &Rows<NumKey>,
     ) -> Result<Sequel<Self::State>, Memory>
         requires fits { fits self.now state.now }
-        requires rows { (inside : ℕ → Bool) × (round_of nat_cmp inside false folded (emissions self.now state.now) ≡ Ok rows.now) }
+        requires rows { (inside : ℕ → Bool)
+            × (round_of nat_cmp inside false folded (all_of (emits self.now state.now) (count self.now)) ≡ Ok rows.now) }
         ensures next { IfOk result (λ o. next_of o ≡ next self.now state.now rows.now) }
         ensures fits { IfOk result (LeadsTo (fits self.now)) };
 }
@@ -80,10 +79,9 @@ fn one_round<T, G, R: Rounds, F: Fn(&R::State) -> Result<Round<NumKey>, Stop<Fau
     requires may { (s : Bor R.State) → R.fits rounds.now s.now → F.pre round.now s }
     requires gives { (s : Bor R.State) (r : _) → R.fits rounds.now s.now → F.post round.now s r
         → IsRoundOfSpans (inside_of job.now.container job.now.capacity) false R.folded workers.now.count
-        job.now.chunk (R.count rounds.now) (R.emits rounds.now s.now) (R.emissions rounds.now s.now) r }
+        job.now.chunk (R.count rounds.now) (R.emits rounds.now s.now) r }
     ensures { IsRoundOfSpans (inside_of job.now.container job.now.capacity) false R.folded
-        workers.now.count job.now.chunk (R.count rounds.now) (R.emits rounds.now state.now)
-        (R.emissions rounds.now state.now) result }
+        workers.now.count job.now.chunk (R.count rounds.now) (R.emits rounds.now state.now) result }
 {
     round(state)
 }
@@ -105,9 +103,10 @@ fn step<
     requires may { (s : Bor R.State) → R.fits rounds.now s.now → F.pre round.now s }
     requires gives { (s : Bor R.State) (r : _) → R.fits rounds.now s.now → F.post round.now s r
         → IsRoundOfSpans (inside_of job.now.container job.now.capacity) false R.folded workers.now.count
-        job.now.chunk (R.count rounds.now) (R.emits rounds.now s.now) (R.emissions rounds.now s.now) r }
+        job.now.chunk (R.count rounds.now) (R.emits rounds.now s.now) r }
     ensures ending { MeetsSeen (λ o. next_of o.0) (ended_by decimal (texted (R.next rounds.now state.now)
-        (round_of nat_cmp (inside_of job.now.container job.now.capacity) false R.folded (R.emissions rounds.now state.now)))) result }
+        (round_of nat_cmp (inside_of job.now.container job.now.capacity) false R.folded
+        (all_of (R.emits rounds.now state.now) (R.count rounds.now))))) result }
     ensures fits { IfOk result (λ o. LeadsTo (R.fits rounds.now) o.0) }
     ensures of_inputs { IsOfInputs result }
     ensures shares { IfOk result (λ o. IsSpanRound (inside_of job.now.container job.now.capacity) workers.now.count
@@ -145,16 +144,16 @@ pub(crate) fn run_rounds<
     requires may { (s : Bor R.State) → R.fits rounds.now s.now → F.pre round s }
     requires gives { (s : Bor R.State) (r : _) → R.fits rounds.now s.now → F.post round s r
         → IsRoundOfSpans (inside_of job.now.container job.now.capacity) false R.folded workers.now.count
-        job.now.chunk (R.count rounds.now) (R.emits rounds.now s.now) (R.emissions rounds.now s.now) r }
+        job.now.chunk (R.count rounds.now) (R.emits rounds.now s.now) r }
     ensures ending { MeetsSeen (λ o. o.text) (ended_by decimal
         (rounds_of nat_cmp (inside_of job.now.container job.now.capacity) false R.folded
-        (R.emissions rounds.now) (R.next rounds.now) most first)) result }
+        (λ s. all_of (R.emits rounds.now s) (R.count rounds.now)) (R.next rounds.now) most first)) result }
     ensures of_inputs { IsOfInputs result }
     ensures shares { IfOk result (λ o. AreLawfulRounds nat_cmp (inside_of job.now.container job.now.capacity) workers.now.count
         (length (spans_of job.now.chunk (R.count rounds.now)))
         (λ s. task_at (R.emits rounds.now s) (range_with_len 0 (R.count rounds.now)) (spans_of job.now.chunk (R.count rounds.now)))
-        (states_of nat_cmp (inside_of job.now.container job.now.capacity) false R.folded (R.emissions rounds.now)
-        (R.next rounds.now) most first)
+        (states_of nat_cmp (inside_of job.now.container job.now.capacity) false R.folded
+        (λ s. all_of (R.emits rounds.now s) (R.count rounds.now)) (R.next rounds.now) most first)
         (rounds_seen o.rounds.items)) }
 {
     let mut report = Few::with_room(workers.alloc, 0)?;

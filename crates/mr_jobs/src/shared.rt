@@ -12,7 +12,7 @@ ghost use Rattle.mr_defs.specs.Limits.{greatest_capacity};
 ghost use Rattle.mr_defs.specs.Rows.{cells_of, rows_of};
 ghost use Rattle.mr_defs.specs.Tasks.{most_tasks};
 ghost use Rattle.mr_items.specs.Keys.{below};
-ghost use Rattle.mr_jobs.specs.JobEnding.{inside_of, is_shared};
+ghost use Rattle.mr_jobs.specs.Meaning.{inside_of, is_shared};
 ghost use Rattle.mr_jobs.specs.RoundOf.{IsRoundOfTasks};
 ghost use Rattle.mr_report.specs.Shown.{workers_of};
 

@@ -1,14 +1,12 @@
 ghost use Rattle.std.specs.Prelude.{◌≡◌, ◌≤◌, ◌∷◌, [], All, IfOk, false, length};
 ghost use Rattle.mr_capacity.specs.Folds.{folded};
-ghost use Rattle.mr_capacity.specs.declared.kinds.JobKind.TheVariants as kind;
+ghost use Rattle.mr_capacity.specs.declared.jobs.JobKind.TheVariants as kind;
 ghost use Rattle.mr_defs.specs.Limits.{input_limit};
 ghost use Rattle.mr_defs.specs.Tasks.{most_tasks};
-ghost use Rattle.mr_items.specs.FaultLines.{shown_text};
-ghost use Rattle.mr_items.specs.Keys.{all_inside, byte_order};
-ghost use Rattle.mr_items.specs.WordCount.{word_count_emits};
+ghost use Rattle.mr_items.specs.Keys.{all_inside};
 ghost use Rattle.mr_jobfile.specs.Seen.{seen};
-ghost use Rattle.mr_jobs.specs.Generated.{generated_ending, written_text};
-ghost use Rattle.mr_jobs.specs.LawfulReport.{IsLawfulReport};
+ghost use Rattle.mr_jobs.specs.Generated.{counted_words, generated_ending};
+ghost use Rattle.mr_jobs.specs.Jobs.{IsLawfulReport};
 ghost use Rattle.mr_jobs.specs.Meets.{IsOfInputs, MeetsSeen};
 ghost use Rattle.mr_jobs.specs.Outputs.{IsJobOutput, IsOutputOf};
 ghost use Rattle.mr_jobs.specs.Printable.{IsPrintable};
@@ -56,8 +54,7 @@ fn words<T: Threads + Sync, G: Gate + Sync>(
 ) -> Result<Output, Stop<Refusal>>
     requires kind { job.now.job ≡ kind.WordCount }
     requires short { length input.now ≤ input_limit }
-    ensures { IsOutputOf byte_order all_inside false (folded job.now.combiner job.now.reducer) shown_text (written_text written (λ k. k))
-        workers.now.count job.now.chunk Boundary.Word word_count_emits input.now result }
+    ensures { IsOutputOf (seen job.now) (counted_words (seen job.now) written input.now) workers.now.count result }
 {
     let pieces = pieces(workers.alloc, input, job.chunk, Boundary::Word)?;
     let mapper = WordCount::new(input, &pieces);

@@ -7,7 +7,7 @@ use Rattle.mr_command.specs.declared.command.Mode.{Mode}
 use Rattle.mr_command.specs.declared.command.Mode.TheVariants as mode
 use Rattle.mr_command.specs.Form.{Form, form}
 use Rattle.mr_jobfile.specs.Values.{SeenJob}
-use Rattle.mr_jobs.specs.LawfulReport.{IsLawfulReport}
+use Rattle.mr_jobs.specs.Jobs.{IsLawfulReport}
 use Rattle.mr_top.specs.RunEnding.{job_at, inputs_of}
 use Rattle.mr_top.specs.Stages.{Contents, Stage, ComesTo}
 

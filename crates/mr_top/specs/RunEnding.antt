@@ -11,8 +11,8 @@ use Rattle.mr_items.specs.Generator.{generated}
 use Rattle.mr_command.specs.declared.command.Mode.{Mode}
 use Rattle.mr_command.specs.declared.command.Mode.TheVariants as mode
 use Rattle.mr_command.specs.Form.{Form, form}
-use Rattle.mr_capacity.specs.declared.kinds.JobKind.{JobKind}
-use Rattle.mr_capacity.specs.declared.kinds.JobKind.TheVariants as kind
+use Rattle.mr_capacity.specs.declared.jobs.JobKind.{JobKind}
+use Rattle.mr_capacity.specs.declared.jobs.JobKind.TheVariants as kind
 use Rattle.mr_jobfile.specs.declared.fault.JobFault.{JobFault}
 use Rattle.mr_jobfile.specs.declared.fault.JobFault.TheVariants as fault
 use Rattle.mr_jobfile.specs.FaultText.{job_line}
@@ -21,7 +21,7 @@ use Rattle.mr_jobfile.specs.Ranges.{job_limit}
 use Rattle.mr_jobfile.specs.Values.{SeenJob}
 use Rattle.mr_jobs.specs.Generated.{generated_ending}
 use Rattle.mr_jobs.specs.Ending.{Ended, Ending, done, refused, passed}
-use Rattle.mr_jobs.specs.JobEnding.{job_ending, inputs_wanted}
+use Rattle.mr_jobs.specs.Jobs.{job_ending, inputs_wanted}
 use Rattle.mr_top.specs.Stages.{Contents, Stage, followed, usage, read_fault}
 
 -- what the words ask for

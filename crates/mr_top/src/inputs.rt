@@ -2,7 +2,7 @@ ghost use Rattle.std.specs.Prelude.{◌≡◌, ◌<◌, ◌≤◌, ◌++◌, ◌
 ghost use Rattle.mr_defs.specs.Limits.{input_limit};
 ghost use Rattle.mr_base.specs.declared.status.Status.TheVariants as status;
 ghost use Rattle.mr_items.specs.FaultLines.{input_line, inputs_line};
-ghost use Rattle.mr_jobs.specs.JobEnding.{inputs_wanted};
+ghost use Rattle.mr_jobs.specs.Jobs.{inputs_wanted};
 ghost use Rattle.mr_jobs.specs.Meets.{IsOfInputs, Meets};
 ghost use Rattle.mr_top.specs.Halts.{Halts, IsPastJob};
 ghost use Rattle.mr_top.specs.RunEnding.{counted, input_at, input_in, inputs_from, inputs_of};

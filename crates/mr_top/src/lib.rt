@@ -9,20 +9,12 @@
 #![tactic(auto)]
 
 mod finished;
-#[cfg(test)]
-mod gates;
 mod halt;
 mod inputs;
 mod job;
 mod modes;
 mod reading;
-#[cfg(test)]
-mod report_tests;
-#[cfg(test)]
-mod rows_tests;
 mod running;
-#[cfg(test)]
-mod tests;
 
 pub use halt::{MEMORY_LINE, USAGE_LINE};
 pub use running::run;

@@ -1,12 +1,11 @@
 ghost use Rattle.std.specs.Prelude.{◌≡◌, ◌≤◌, ◌∷◌, [], All, IfOk, IfErr, Ok, false, is_some, length, true};
 ghost use Rattle.mr_defs.specs.Limits.{input_limit};
-ghost use Rattle.mr_capacity.specs.declared.kinds.JobKind.TheVariants as job_kind;
+ghost use Rattle.mr_capacity.specs.declared.jobs.JobKind.TheVariants as job_kind;
 ghost use Rattle.mr_command.specs.Asked.{asked};
 ghost use Rattle.mr_command.specs.Form.{IsUpTo, IsWithin, words_most, workers_most};
 ghost use Rattle.mr_items.specs.Generator.{generated};
 ghost use Rattle.mr_jobfile.specs.Seen.{seen};
-ghost use Rattle.mr_jobs.specs.JobEnding.{inputs_wanted, job_ending};
-ghost use Rattle.mr_jobs.specs.LawfulReport.{IsLawfulReport};
+ghost use Rattle.mr_jobs.specs.Jobs.{IsLawfulReport, inputs_wanted, job_ending};
 ghost use Rattle.mr_jobs.specs.Meets.{IsOfInputs, Meets, MeetsSeen};
 ghost use Rattle.mr_jobs.specs.Printable.{IsPrintable};
 ghost use Rattle.mr_report.specs.Shown.{rounds_seen};

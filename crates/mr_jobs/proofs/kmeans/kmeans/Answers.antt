@@ -1,13 +1,11 @@
-use Rattle.std.proofs.Common.{rules, [], sym, subst}
-use Rattle.std.specs.Prelude.{IfOk}
-use Rattle.mr_capacity.specs.declared.kinds.JobKind.TheVariants as kind
+use Rattle.std.proofs.Common.{subst, ap}
+use Rattle.mr_capacity.specs.declared.jobs.JobKind.TheVariants as kind
 use Rattle.mr_jobfile.specs.Seen.{seen}
+use Rattle.mr_jobs.specs.Jobs.{clusters, first_grid, gridded}
+use Rattle.mr_jobs.proofs.Inputs.{of_input, of_stopped}
+use Rattle.mr_jobs.proofs.Outputs.{of_kind}
 use Rattle.mr_jobs.proofs.Grids.{dense_even}
-use Rattle.mr_jobs.proofs.Reports.{report_of}
-use Rattle.mr_jobs.specs.LawfulReport.{Moves, OfGrid}
-use Rattle.mr_jobs.specs.declared.output.Output.{Output}
 use Rattle.mr_numeric.specs.Grids.{IsEven}
-use Rattle.mr_report.specs.Shown.{rounds_seen}
 use Rattle.mr_jobs.proofs.kmeans.kmeans.Goals as goal
 
 pub moved-requires-clause-even : goal.moved-requires-clause-even
@@ -18,10 +16,14 @@ pub returns-in-Ok : goal.returns-in-Ok
 returns-in-Ok g c =
     let j = seen c.args.job.now in
     let workers = c.args.workers.now.count in
-    record {
-      ending = search rules;
-      of_inputs = c.moved.ensures.of_inputs;
-      shares = report_of j c.args.inputs.now workers kind.KMeans c.moved.result c.requires.kind
-          (subst (λ read. IfOk c.moved.result (λ (o : Output). OfGrid (Moves j [] workers (rounds_seen o.rounds.items)) read))
-          (sym c.in-Ok.ensures.read) c.moved.ensures.shares);
-    }
+    of_kind j workers c.moved.result c.args.inputs.now kind.KMeans c.requires.kind
+    (of_input j workers (first_grid j c.args.inputs.now) (clusters j) _ c.moved.result (ap (gridded 1) c.in-Ok.ensures.read)
+    c.moved.ensures)
+
+pub returns-in-Err : goal.returns-in-Err
+returns-in-Err g c =
+    let j = seen c.args.job.now in
+    let workers = c.args.workers.now.count in
+    of_kind j workers _ c.args.inputs.now kind.KMeans c.requires.kind
+    (of_stopped j workers (λ grid. grid) (first_grid j c.args.inputs.now) (clusters j) c.in-Err.stop c.in-Err.ensures.grid
+    c.in-Err.ensures.of_inputs)

@@ -2,7 +2,7 @@ use Rattle.std.proofs.Common.{subst}
 use Rattle.std.specs.Ordering.{nat_cmp}
 use Rattle.mr_defs.specs.Folded.{sum_folded}
 use Rattle.mr_items.specs.LinearRegression.{linear_regression_emissions}
-use Rattle.mr_jobs.specs.JobEnding.{inside_of, is_shared}
+use Rattle.mr_jobs.specs.Meaning.{inside_of, is_shared}
 use Rattle.mr_jobs.proofs.Passed.{passed_rows}
 use Rattle.mr_numeric.proofs.SumRows.{are_sums}
 use Rattle.mr_numeric.specs.Sums.{AreSums}

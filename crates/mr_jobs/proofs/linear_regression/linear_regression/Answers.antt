@@ -1,30 +1,23 @@
-use Rattle.std.proofs.Common.{rules, length, sym, subst}
-use Rattle.std.specs.Prelude.{IfOk}
-use Rattle.std.specs.List.{range_with_len}
-use Rattle.std.specs.Ordering.{nat_cmp}
-use Rattle.mr_capacity.specs.declared.kinds.JobKind.TheVariants as kind
-use Rattle.mr_defs.specs.Tasks.{spans_of}
-use Rattle.mr_items.specs.LinearRegression.{linear_regression_emits}
+use Rattle.std.proofs.Common.{ap}
+use Rattle.mr_capacity.specs.declared.jobs.JobKind.TheVariants as kind
 use Rattle.mr_jobfile.specs.Seen.{seen}
-use Rattle.mr_jobs.specs.JobEnding.{inside_of}
-use Rattle.mr_jobs.specs.LawfulReport.{OfGrid}
-use Rattle.mr_jobs.specs.Shares.{AreOnlyRound}
-use Rattle.mr_jobs.specs.declared.output.Output.{Output}
-use Rattle.mr_jobs.proofs.Reports.{report_of}
-use Rattle.mr_report.specs.Shown.{rounds_seen}
+use Rattle.mr_jobs.specs.Jobs.{regression, first_grid, gridded}
+use Rattle.mr_jobs.proofs.Inputs.{of_input, of_stopped}
+use Rattle.mr_jobs.proofs.Outputs.{of_kind}
 use Rattle.mr_jobs.proofs.linear_regression.linear_regression.Goals as goal
 
 pub returns-in-Ok : goal.returns-in-Ok
 returns-in-Ok g c =
-    let job = c.args.job.now in
+    let j = seen c.args.job.now in
     let workers = c.args.workers.now.count in
-    record {
-      ending = search rules;
-      of_inputs = c.line_through.ensures.of_inputs;
-      shares = report_of (seen job) c.args.inputs.now workers kind.LinearRegression c.line_through.result c.requires.kind
-          (subst (λ read. IfOk c.line_through.result (λ (o : Output). OfGrid
-          (λ grid. AreOnlyRound nat_cmp (inside_of job.container job.capacity) workers
-          (linear_regression_emits grid) (range_with_len 0 (length grid)) (spans_of job.chunk (length grid))
-          (rounds_seen o.rounds.items)) read))
-          (sym c.in-Ok.ensures.read) c.line_through.ensures.shares);
-    }
+    of_kind j workers c.line_through.result c.args.inputs.now kind.LinearRegression c.requires.kind
+    (of_input j workers (first_grid j c.args.inputs.now) (regression j) _ c.line_through.result (ap (gridded 1) c.in-Ok.ensures.read)
+    c.line_through.ensures)
+
+pub returns-in-Err : goal.returns-in-Err
+returns-in-Err g c =
+    let j = seen c.args.job.now in
+    let workers = c.args.workers.now.count in
+    of_kind j workers _ c.args.inputs.now kind.LinearRegression c.requires.kind
+    (of_stopped j workers (λ grid. grid) (first_grid j c.args.inputs.now) (regression j) c.in-Err.stop c.in-Err.ensures.grid
+    c.in-Err.ensures.of_inputs)

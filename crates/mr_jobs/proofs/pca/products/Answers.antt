@@ -1,8 +1,8 @@
 use Rattle.std.proofs.Common.{false, length, ap, ◌∙◌}
 use Rattle.mr_defs.specs.Folded.{sum_folded}
 use Rattle.mr_defs.specs.Tasks.{spans_of}
-use Rattle.mr_items.specs.Pca.{spread_emits, spread_emissions}
-use Rattle.mr_jobs.specs.JobEnding.{inside_of, is_shared}
+use Rattle.mr_items.specs.Pca.{spread_emits}
+use Rattle.mr_jobs.specs.Meaning.{inside_of, is_shared}
 use Rattle.mr_jobs.proofs.SpanShares.{over_spans}
 use Rattle.mr_jobs.proofs.pca.products.Goals as goal
 
@@ -11,7 +11,6 @@ returns g c =
     let job = c.args.job.now in
     let grid = c.args.grid.now in
     over_spans (inside_of job.container job.capacity) (is_shared job.container) false sum_folded c.args.workers.now.count _ job.chunk
-    (length grid) _ (spread_emits c.args.means.now grid)
-    (spread_emissions c.args.means.now grid) c.spans.result c.number_round.result c.number_round.ensures
+    (length grid) _ (spread_emits c.args.means.now grid) c.spans.result c.number_round.result c.number_round.ensures
     c.requires.own c.new-mapper.ensures.whole c.new-mapper.ensures.count c.new-mapper.ensures.tasks
     (c.spans.ensures.exact ∙ ap (spans_of job.chunk) c.rows.ensures)

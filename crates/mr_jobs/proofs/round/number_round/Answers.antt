@@ -1,6 +1,6 @@
 use Rattle.std.proofs.Common.{sym, subst}
 use Rattle.std.specs.Ordering.{nat_cmp}
-use Rattle.mr_jobs.specs.JobEnding.{inside_of, is_shared}
+use Rattle.mr_jobs.specs.Meaning.{inside_of, is_shared}
 use Rattle.mr_jobs.specs.RoundOf.{IsRoundOfTasks}
 use Rattle.mr_jobs.proofs.round.number_round.Goals as goal
 

@@ -1,4 +1,4 @@
-use Rattle.mr_jobs.specs.JobEnding.{inside_of}
+use Rattle.mr_jobs.specs.Meaning.{inside_of}
 use Rattle.mr_jobs.proofs.rounds.step.Goals as goal
 
 pub sequel-requires-clause-rows : goal.sequel-requires-clause-rows

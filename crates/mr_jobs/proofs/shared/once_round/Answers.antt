@@ -2,7 +2,7 @@ use Rattle.std.proofs.Common.{subst, sym}
 use Rattle.std.specs.Ordering.{nat_cmp}
 use Rattle.mr_capacity.specs.Folds.{folded}
 use Rattle.mr_capacity.specs.declared.kinds.ContainerKind.TheVariants as container
-use Rattle.mr_jobs.specs.JobEnding.{inside_of, is_shared}
+use Rattle.mr_jobs.specs.Meaning.{inside_of, is_shared}
 use Rattle.mr_jobs.specs.RoundOf.{IsRoundOfTasks}
 use Rattle.mr_jobs.proofs.shared.once_round.Goals as goal
 

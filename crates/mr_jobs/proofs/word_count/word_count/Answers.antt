@@ -1,19 +1,15 @@
-use Rattle.std.proofs.Common.{false, refl}
-use Rattle.mr_capacity.specs.Folds.{folded}
-use Rattle.mr_capacity.specs.declared.kinds.JobKind.TheVariants as kind
-use Rattle.mr_items.specs.FaultLines.{shown_text}
-use Rattle.mr_items.specs.Keys.{all_inside, byte_order}
-use Rattle.mr_items.specs.Texts.{rows_text}
-use Rattle.mr_items.specs.WordCount.{word_count_emits}
+use Rattle.std.proofs.Common.{subst}
+use Rattle.mr_capacity.specs.declared.jobs.JobKind.TheVariants as kind
 use Rattle.mr_jobfile.specs.Seen.{seen}
-use Rattle.mr_jobs.proofs.Outputs.{job_output}
-use Rattle.mr_split.specs.declared.boundary.Boundary.{Boundary}
+use Rattle.mr_jobs.specs.Generated.{counted_words}
+use Rattle.mr_jobs.specs.Outputs.{IsOutputOf}
+use Rattle.mr_jobs.specs.declared.output.Written.TheVariants as written
+use Rattle.mr_jobs.proofs.Outputs.{of_kind}
 use Rattle.mr_jobs.proofs.word_count.word_count.Goals as goal
 
 pub returns : goal.returns
 returns g c =
-    let job = c.args.job.now in
-    job_output byte_order all_inside false (folded job.combiner job.reducer) shown_text
-    (rows_text (λ key. key)) Boundary.Word word_count_emits
-    c.args.workers.now.count (seen job) c.args.inputs.now kind.WordCount c.requires.kind _ c.words.result c.first_input.ensures.input refl
-    (λ rounds are. are) c.words.ensures
+    let j = seen c.args.job.now in
+    let workers = c.args.workers.now.count in
+    of_kind j workers c.words.result c.args.inputs.now kind.WordCount c.requires.kind
+    (subst (λ bytes. IsOutputOf j (counted_words j written.Rows bytes) workers c.words.result) c.first_input.ensures.input c.words.ensures)

@@ -3,7 +3,7 @@ use Rattle.mr_command.specs.Asked.{asked}
 use Rattle.mr_command.specs.declared.command.Mode.TheVariants as mode
 use Rattle.mr_items.specs.Generator.{generated}
 use Rattle.mr_jobfile.specs.Seen.{seen}
-use Rattle.mr_jobs.specs.LawfulReport.{IsLawfulReport}
+use Rattle.mr_jobs.specs.Jobs.{IsLawfulReport}
 use Rattle.mr_report.specs.Shown.{rounds_seen}
 use Rattle.mr_top.specs.RunEnding.{job_at}
 use Rattle.mr_top.specs.Stages.{ComesTo}

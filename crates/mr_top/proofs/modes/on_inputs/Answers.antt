@@ -1,7 +1,6 @@
 use Rattle.std.proofs.Common.{IfOk, subst}
 use Rattle.mr_jobfile.specs.Seen.{seen}
-use Rattle.mr_jobs.specs.JobEnding.{job_ending}
-use Rattle.mr_jobs.specs.LawfulReport.{IsLawfulReport}
+use Rattle.mr_jobs.specs.Jobs.{IsLawfulReport, job_ending}
 use Rattle.mr_jobs.specs.Meets.{MeetsSeen}
 use Rattle.mr_report.specs.Shown.{rounds_seen}
 use Rattle.mr_top.proofs.modes.on_inputs.Goals as goal

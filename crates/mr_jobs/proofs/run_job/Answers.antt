@@ -1,7 +1,7 @@
 use Rattle.mr_jobfile.specs.Ranges.{has_means}
 use Rattle.mr_jobfile.specs.Seen.{seen}
 use Rattle.mr_jobs.proofs.Printing.{printable}
-use Rattle.mr_jobs.proofs.job.run_job.Goals as goal
+use Rattle.mr_jobs.proofs.run_job.Goals as goal
 
 pub returns-clause-printable : goal.returns-clause-printable
 returns-clause-printable g c = printable (seen c.args.job.now) c.args.inputs.now c.args.workers.now.count
