@@ -15,6 +15,13 @@ fn keys_below_and_not_below(rt: HostRuntime) -> Result<(), Fail> {
     assert!(rt; local.cells() == 1);
     assert!(rt; local.faults().outside == Some(NumKey(16)));
     assert!(rt; shown(alloc, &local, 1)?.as_bytes() == b"15=4 |".as_slice());
+    Ok(())
+}
+
+#[test]
+fn least_faults(rt: HostRuntime) -> Result<(), Fail> {
+    let mut local: ArrayLocal<Sum, Fixed<16>> = ArrayLocal::new(rt.alloc(), 16)?;
+    local.emit(NumKey(16), 1)?;
     local.too_large(NumKey(9));
     local.too_large(NumKey(12));
     local.too_large(NumKey(17));
@@ -23,7 +30,7 @@ fn keys_below_and_not_below(rt: HostRuntime) -> Result<(), Fail> {
         local.faults().over == Some(NumKey(9)) && local.faults().outside == Some(NumKey(16))
     );
     assert!(rt; local.faults().malformed == Some(8) && local.faults().twice.is_none());
-    assert!(rt; local.cells() == 1);
+    assert!(rt; local.cells() == 0);
     Ok(())
 }
 
@@ -84,10 +91,17 @@ fn runs_of_one_key(rt: HostRuntime) -> Result<(), Fail> {
     assert!(rt; shown(alloc, &local, 1)?.as_bytes() == want);
     assert!(rt; shown(alloc, &plain, 1)?.as_bytes() == want);
     assert!(rt; local.spares_all() && !plain.spares_all());
+    Ok(())
+}
+
+#[test]
+fn runs_of_a_key_outside(rt: HostRuntime) -> Result<(), Fail> {
+    let alloc = rt.alloc();
+    let mut local: ArrayLocal<Sum, Fixed<16>> = ArrayLocal::new(alloc, 16)?;
     local.emit_run(alloc, &NumKey(16), &Numbers { numbers: &[] })?;
     assert!(rt; local.faults().outside.is_none());
     local.emit_run(alloc, &NumKey(17), &Numbers { numbers: &[1, 2] })?;
-    assert!(rt; local.faults().outside == Some(NumKey(17)) && local.cells() == 2);
+    assert!(rt; local.faults().outside == Some(NumKey(17)) && local.cells() == 0);
     Ok(())
 }
 

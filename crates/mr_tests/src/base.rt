@@ -51,10 +51,23 @@ fn keys_through_their_bound(rt: HostRuntime) -> Result<(), Fail> {
         printed_twice(alloc, &NumKey(9223372036854775807))?.as_bytes()
             == b"92233720368547758079223372036854775807".as_slice()
     );
+    Ok(())
+}
+
+#[test]
+fn keys_in_order(rt: HostRuntime) -> Result<(), Fail> {
+    let alloc = rt.alloc();
     assert!(rt; ByteKey::of(alloc, b"B")? < ByteKey::of(alloc, b"a")?);
     assert!(rt; ByteKey::of(alloc, b"a")? < ByteKey::of(alloc, b"aa")?);
     assert!(rt; NumKey(9) < NumKey(10));
     assert_eq!(rt; NumKey(7).lead(), 7);
+    assert!(rt; SliceKey::of(b"B", false) < SliceKey::of(b"a", false));
+    Ok(())
+}
+
+#[test]
+fn shown_keys(rt: HostRuntime) -> Result<(), Fail> {
+    let alloc = rt.alloc();
     let mut shown = Text::new(alloc);
     ByteKey::of(alloc, b"a b")?.show(&mut shown)?;
     SliceKey::of(b"\x7fDON'T", true).show(&mut shown)?;
@@ -62,6 +75,8 @@ fn keys_through_their_bound(rt: HostRuntime) -> Result<(), Fail> {
     assert!(rt; shown.as_bytes() == b"a?b?don't12".as_slice());
     Ok(())
 }
+
+const TEXT: &[u8] = b"The QUICK@[ brown-fox-jumped OVER";
 
 // Whether two keys of one list agree in all that is asked of them.
 fn agree<A: Key, B: Key>(alloc: Global, a: &A, b: &B) -> Result<bool, Memory> {
@@ -75,16 +90,25 @@ fn agree<A: Key, B: Key>(alloc: Global, a: &A, b: &B) -> Result<bool, Memory> {
 }
 
 #[test]
-fn borrowed_keys(rt: HostRuntime) -> Result<(), Fail> {
+fn borrowed_keys_agree(rt: HostRuntime) -> Result<(), Fail> {
     let alloc = rt.alloc();
     let owned = ByteKey::of(alloc, b"don't")?;
     assert!(rt; agree(alloc, &owned, &SliceKey::of(b"DON'T", true))?);
     assert!(rt; agree(alloc, &owned, &ByteKey::part(alloc, b"DON'T", true)?)?);
     let borrowed: SliceKey = TextKey::part(alloc, b"DON'T", true)?;
     assert!(rt; agree(alloc, &owned, &borrowed)?);
-    assert!(rt; SliceKey::of(b"B", false) < SliceKey::of(b"a", false));
-    let text = b"The QUICK@[ brown-fox-jumped OVER".as_slice();
-    let long = SliceKey::within(text, 12, 33, true);
+    for from in [0, 4, 12, 29] {
+        let owned = ByteKey::part_of(alloc, TEXT, from, 33, true)?;
+        assert!(rt;
+            agree(alloc, &owned, &SliceKey::within(TEXT, from, 33, true))?,
+            "{from}"
+        );
+    }
+    Ok(())
+}
+
+#[test]
+fn borrowed_keys_ascend(rt: HostRuntime) {
     let ascending = [
         SliceKey::of(b"a", true),
         SliceKey::of(b"a\0", true),
@@ -93,28 +117,27 @@ fn borrowed_keys(rt: HostRuntime) -> Result<(), Fail> {
         SliceKey::of(b"brown-fox-jumped", false),
         SliceKey::of(b"brown-fox-jumped oveq", false),
         SliceKey::of(b"BROWN-fox-jumped over", true),
-        SliceKey::within(text, 4, 11, true),
+        SliceKey::within(TEXT, 4, 11, true),
     ];
     for i in 0..7 {
         assert!(rt; ascending[i] < ascending[i + 1], "{i}");
     }
     assert_eq!(rt; ascending[7].lead(), 0x717569636b405b00);
-    assert!(rt; long == ascending[6]);
-    for from in [0, 4, 12, 29] {
-        let owned = ByteKey::part_of(alloc, text, from, 33, true)?;
-        assert!(rt;
-            agree(alloc, &owned, &SliceKey::within(text, from, 33, true))?,
-            "{from}"
-        );
-    }
-    // A key may be lent to a thread and handed to one.
+    assert!(rt; SliceKey::within(TEXT, 12, 33, true) == ascending[6]);
+}
+
+// A key may be lent to a thread and handed to one.
+#[test]
+fn borrowed_keys_in_threads(rt: HostRuntime) -> Result<(), Fail> {
+    let long = SliceKey::within(TEXT, 12, 33, true);
+    let borrowed: SliceKey = TextKey::part(rt.alloc(), b"DON'T", true)?;
     let (left, right) = thread::join(&rt, || long.code(), move || borrowed.code());
     assert!(rt; left != right);
     Ok(())
 }
 
 #[test]
-fn lists_and_texts(rt: HostRuntime) -> Result<(), Fail> {
+fn lists(rt: HostRuntime) -> Result<(), Fail> {
     let alloc = rt.alloc();
     let mut few = Few::with_room(alloc, 1)?;
     few.push(5i128);
@@ -128,6 +151,11 @@ fn lists_and_texts(rt: HostRuntime) -> Result<(), Fail> {
     let answer = Answer::many(few);
     assert_eq!(rt; answer.len(), 1);
     assert_eq!(rt; answer.number(0), 4);
+    Ok(())
+}
+
+#[test]
+fn numbers_of_answers(rt: HostRuntime) {
     for n in [
         0,
         i64::MIN as i128,
@@ -139,6 +167,11 @@ fn lists_and_texts(rt: HostRuntime) -> Result<(), Fail> {
         assert_eq!(rt; Answer::one(n).number(0), n);
         assert_eq!(rt; Answer::two(5, n).number(1), n);
     }
+}
+
+#[test]
+fn texts(rt: HostRuntime) -> Result<(), Fail> {
+    let alloc = rt.alloc();
     let mut text = Text::new(alloc);
     text.reserve(2)?;
     text.push(b"n ")?;
@@ -149,6 +182,12 @@ fn lists_and_texts(rt: HostRuntime) -> Result<(), Fail> {
         text.as_bytes()
             == b"n 0-7170141183460469231731687303715884105727-170141183460469231731687303715884105728".as_slice()
     );
+    Ok(())
+}
+
+#[test]
+fn rows_and_patterns(rt: HostRuntime) -> Result<(), Fail> {
+    let alloc = rt.alloc();
     let mut rows = Rows::new(alloc);
     rows.push(NumKey(7), Answer::two(1, 2))?;
     rows.push(NumKey(8), Answer::one(3))?;

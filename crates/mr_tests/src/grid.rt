@@ -180,15 +180,17 @@ const ONE_PIXEL: [u8; 58] = [
     0,
 ];
 
+// Where the pixels of that bitmap are.
+const WHOLE: Bitmap = Bitmap {
+    place: 54,
+    width: 1,
+    rows: 1,
+    stride: 4,
+};
+
 #[test]
-fn bitmaps(rt: HostRuntime) -> Result<(), Fail> {
-    let whole = Bitmap {
-        place: 54,
-        width: 1,
-        rows: 1,
-        stride: 4,
-    };
-    assert_eq!(rt; read_bitmap(&ONE_PIXEL), Ok(whole));
+fn bitmaps(rt: HostRuntime) {
+    assert_eq!(rt; read_bitmap(&ONE_PIXEL), Ok(WHOLE));
     for length in 0..58usize {
         let want = if length < 54 {
             BitmapFault::Short
@@ -201,6 +203,10 @@ fn bitmaps(rt: HostRuntime) -> Result<(), Fail> {
             "{length} bytes"
         );
     }
+}
+
+#[test]
+fn faults_of_bitmaps(rt: HostRuntime) {
     let changes = [
         (0, 0x43, BitmapFault::Magic),
         (14, 0x0c, BitmapFault::Header),
@@ -220,16 +226,19 @@ fn bitmaps(rt: HostRuntime) -> Result<(), Fail> {
         }
         assert_eq!(rt; read_bitmap(&bytes), Err(want), "place {place}");
     }
+}
+
+#[test]
+fn sides_of_bitmaps(rt: HostRuntime) {
     let mut top_first = ONE_PIXEL;
     for place in 22..26 {
         top_first[place] = 0xff;
     }
-    assert_eq!(rt; read_bitmap(&top_first), Ok(whole));
+    assert_eq!(rt; read_bitmap(&top_first), Ok(WHOLE));
     let mut largest = ONE_PIXEL;
     let sides = [0xff, 0xff, 0xff, 0x7f, 0, 0, 0, 0x80];
     for i in 0..8usize {
         largest[18 + i] = sides[i];
     }
     assert_eq!(rt; read_bitmap(&largest), Err(BitmapFault::Pixels));
-    Ok(())
 }

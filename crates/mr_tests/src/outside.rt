@@ -64,6 +64,12 @@ fn fails_where_told(rt: HostRuntime) -> Result<(), Fail> {
         assert_eq!(rt; shelf.faults(), 1);
         assert!(rt; gives(&read_all(alloc, &mut shelf, "in", LIMIT), b"abcdefgh"));
     }
+    Ok(())
+}
+
+#[test]
+fn fails_in_a_later_read(rt: HostRuntime) -> Result<(), Fail> {
+    let alloc = rt.alloc();
     let mut shelf = short_shelf(alloc, 5)?;
     assert!(rt; gives(&read_all(alloc, &mut shelf, "in", LIMIT), b"abcdefgh"));
     assert!(rt; is_fault(&read_all(alloc, &mut shelf, "in", LIMIT)));
@@ -94,8 +100,12 @@ fn takes_what_it_has_room_for(rt: HostRuntime) -> Result<(), Fail> {
     assert_eq!(rt; put_all(&mut sink, b"cat 1\n"), Err(WriteFault));
     assert_eq!(rt; sink.bytes(), b"cat 1".as_slice());
     assert_eq!(rt; sink.faults(), 1);
+    Ok(())
+}
 
-    let mut sink = MemorySink::new(alloc, 5)?;
+#[test]
+fn takes_nothing_where_told(rt: HostRuntime) -> Result<(), Fail> {
+    let mut sink = MemorySink::new(rt.alloc(), 5)?;
     sink.fail_at(2)?;
     assert_eq!(rt; put_all(&mut sink, b"cat"), Ok(()));
     assert_eq!(rt; put_all(&mut sink, b" 1"), Err(WriteFault));
@@ -178,6 +188,10 @@ fn counts_the_faults_of_a_writer(rt: HostRuntime) {
         assert_eq!(rt; put_all(&mut sink, b"def"), Err(WriteFault));
         assert_eq!(rt; sink.faults(), 1);
     }
+}
+
+#[test]
+fn counts_a_flush_that_fails(rt: HostRuntime) {
     let mut sink = StdSink::new(Narrow {
         left: 4,
         errs: false,
