@@ -190,7 +190,7 @@ impl<C: Combiner, S: Size> Local for ArrayLocal<C, S> {
 impl<C: Combiner, S: Size> Parted for ArrayLocal<C, S> {
     ghost use Rattle.std.specs.Prelude.{◌≡◌, ◌==◌, ◌≤◌, ◌%◌, drop, filter};
     ghost use Rattle.std.proofs.Common.{ap};
-    ghost use Rattle.mr_container.specs.Laws.{part_below};
+    ghost use Rattle.mr_container.specs.Laws.{part_below, part_nests};
     ghost use Rattle.mr_array.specs.Cells.{is_below, cell_under, numbered};
     ghost use Rattle.mr_array.specs.Sparing.{fixed_spares, outside_spares};
 
@@ -222,6 +222,8 @@ impl<C: Combiner, S: Size> Parted for ArrayLocal<C, S> {
     ghost spares_outside = { λ s k e. outside_spares _ _ e };
 
     ghost parts_below = { λ parts k h. part_below k parts h };
+
+    ghost parts_nest = { λ parts times k h m. part_nests k parts times };
 
     fn cursor(&self, part: u32, parts: u32) -> Cursor {
         Cursor {

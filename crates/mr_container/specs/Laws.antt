@@ -1,10 +1,11 @@
 -- What the laws of a container follow from.
-use Rattle.std.specs.Prelude.{◌≡◌, ℕ, ◌<◌, ◌≤◌, ◌%◌, Bool, true, false, not, ◌&&◌, if◌then◌else◌, List, Option, Some, None}
+use Rattle.std.specs.Prelude.{◌≡◌, ℕ, ◌+◌, ◌*◌, ◌/◌, ◌%◌, ◌<◌, ◌≤◌, Bool, true, false, not, ◌&&◌, if◌then◌else◌, List, Option, Some, None}
 use Rattle.std.specs.List.Sorted.{IsPermutation}
 use Rattle.std.specs.declared.cmp.Ordering.{Ordering}
 use Rattle.std.specs.Cmp.{IsTotalOrder, nat_cmp_total}
 use Rattle.std.specs.FinMap.{IsAntisymmetric, nat_cmp-IsAntisymmetric}
 use Rattle.std.proofs.Common.{sym, ap, subst, ◌∙◌, arith}
+use Rattle.std.proofs.Math.Nat.{div-add-mod, mul-add-mod_self_left, mul_assoc}
 use Rattle.mr_defs.specs.Emission.{Emission}
 use Rattle.mr_defs.specs.Commutative.{IsCommutative}
 use Rattle.mr_defs.specs.CommutativeLaws.{joined_by-IsPermutation}
@@ -64,3 +65,11 @@ never_outside e = cc
 
 pub part_below : (n parts : ℕ) → 1 ≤ parts → n % parts < parts
 part_below n parts h = omega arith
+
+-- a remainder of a multiple of a number leaves the number's remainder
+pub part_nests : (n parts times : ℕ) → n % (parts * times) % parts ≡ n % parts
+part_nests n parts times = sym (
+    ap (λ m. m % parts) (sym (div-add-mod n (parts * times)))
+    ∙ ap (λ m. (m + n % (parts * times)) % parts) (mul_assoc parts times (n / (parts * times)))
+    ∙ mul-add-mod_self_left parts (times * (n / (parts * times))) (n % (parts * times))
+    )

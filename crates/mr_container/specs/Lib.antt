@@ -1,3 +1,4 @@
 pub mod Partition
 pub mod Laws
 pub mod Block
+pub mod Entries

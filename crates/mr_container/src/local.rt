@@ -1,5 +1,5 @@
-ghost use Rattle.std.specs.Prelude.{◌≡◌, ℕ, ◌++◌, ◌∷◌, [], List, All, Bool, true, false, take, vec_capacity, IfOk, OnOk, OnErr, IsOk};
-ghost use Rattle.std.specs.Prelude.{IsTrue};
+ghost use Rattle.std.specs.Prelude.{◌≡◌, ℕ, ◌++◌, ◌∷◌, [], List, All, Bool, true, false, take, vec_capacity, IfNone, IfOk, IfSome, OnOk, OnErr};
+ghost use Rattle.std.specs.Prelude.{IsOk, IsTrue};
 ghost use Rattle.std.specs.List.Sorted.{IsPermutation};
 ghost use Rattle.mr_defs.specs.Emission.{Emission, Pair, TooLarge, Malformed};
 ghost use Rattle.mr_defs.specs.Faulty.{Noted};
@@ -122,6 +122,20 @@ pub trait Local: Drop {
         ensures { result ≡ true → (k : Self.Key) → IsTrue (spares self.now k) }
     {
         false
+    }
+
+    /// Gives what is inside away as a local of its own and goes on with no cell, where the container has grown large and few of its pairs
+    /// share a key; or answers None, and nothing has changed. By default it never gives.
+    ///
+    /// For a worker that combines few of its pairs: tables that stay small are quick to emit into, and whoever reduces merges them.
+    fn spill(&mut self, _alloc: Global) -> Result<Option<Self>, Memory>
+        ensures given { IfOk result (λ r. IfSome r (λ given. (es : List (Emission Self.Key Self.Value)) → stands self.old es
+            → stands given es × stands self.new [])) }
+        ensures kept { IfOk result (λ r. IfNone r (same self.old self.new)) }
+        ensures err { OnErr result (same self.old self.new) }
+        ensures origin { same_origin self.old self.new }
+    {
+        Ok(None)
     }
 
     /// Notes that the key has a value which is too large. Takes no memory.

@@ -1,4 +1,4 @@
-ghost use Rattle.std.specs.Prelude.{◌≡◌, ℕ, ◌<◌, ◌≤◌, ◌∷◌, [], List, Bool, true, false, is_some, Option, MatchOption};
+ghost use Rattle.std.specs.Prelude.{◌≡◌, ℕ, ◌<◌, ◌≤◌, ◌*◌, ◌%◌, ◌∷◌, [], List, Bool, true, false, is_some, Option, MatchOption};
 ghost use Rattle.mr_defs.specs.Emission.{Emission};
 ghost use Rattle.mr_defs.specs.Stands.{StandsFor};
 ghost use Rattle.mr_container.specs.Partition.{IsPartition};
@@ -12,7 +12,8 @@ use std::alloc::Global;
 
 /// A local whose keys and cells are read partition by partition.
 ///
-/// Each key has one partition, its part of so many parts, and all locals of a type agree on it. `Fold` is the combiner of the cells.
+/// Each key has one partition, its part of so many parts, and all locals of a type agree on it; finer partitions lie within those that they
+/// are finer than. `Fold` is the combiner of the cells.
 pub trait Parted: Local {
     type Fold: Combiner<Value = Self::Value>;
 
@@ -33,20 +34,18 @@ pub trait Parted: Local {
     /// Arranges the keys by partition, for the number of partitions by which they will be read, so that a cursor passes over no other
     /// partition's keys. Nothing that contracts see changes, and cursors serve as well without it.
     ///
-    /// By default it does nothing. For a container that has many keys, so that 64 partitions are read in little more time than one.
+    /// By default it does nothing. For a container that has many keys, so that many partitions are read in little more time than one.
     fn arrange(&mut self, _alloc: Global, _parts: u32) -> Result<(), Memory>
-        requires some { 1 ≤ _parts }
-        requires few { _parts ≤ 64 }
+        requires { 1 ≤ _parts }
         ensures same { Self.same self.old self.new }
         ensures origin { Self.same_origin self.old self.new }
     {
         Ok(())
     }
 
-    /// A cursor at the beginning of a partition, where `parts`, the number of partitions, is from 1 to 64.
+    /// A cursor at the beginning of a partition, of so many.
     fn cursor(&self, part: u32, parts: u32) -> Cursor
         requires some { 1 ≤ parts }
-        requires few { parts ≤ 64 }
         requires part { part < parts }
         ensures stands { stands_in self.now result }
         ensures all { IsPartition Self.Key.cmp (cell self.now) (part_of parts) part (left self.now result) };
@@ -74,4 +73,7 @@ pub trait Parted: Local {
     ghost spares_outside: { (s : Self) (k : Self.Key) → inside k ≡ false → Self.spares s k ≡ true };
 
     ghost parts_below: { (parts : ℕ) (k : Self.Key) → 1 ≤ parts → part_of parts k < parts };
+
+    /// Of so many times as many partitions, those that are equal modulo a number of partitions are together one of these.
+    ghost parts_nest: { (parts times : ℕ) (k : Self.Key) → 1 ≤ parts → 1 ≤ times → part_of (parts * times) k % parts ≡ part_of parts k };
 }

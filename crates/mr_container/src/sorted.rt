@@ -128,7 +128,7 @@ impl<K: Key, C: Combiner> Parted for SortedLocal<K, C> {
     ghost use Rattle.std.specs.Prelude.{◌≡◌, ◌==◌, ◌≤◌, ◌%◌, true, drop, filter, is_some, vec_len};
     ghost use Rattle.std.specs.FinMap.{find};
     ghost use Rattle.std.proofs.Common.{sym, ap, subst, ◌∙◌};
-    ghost use Rattle.mr_container.specs.Laws.{both_true, never_outside, part_below};
+    ghost use Rattle.mr_container.specs.Laws.{both_true, never_outside, part_below, part_nests};
 
     type Fold = C;
 
@@ -159,6 +159,8 @@ impl<K: Key, C: Combiner> Parted for SortedLocal<K, C> {
     ghost spares_outside = { λ s k e. never_outside e };
 
     ghost parts_below = { λ parts k h. part_below (K.hash_of k) parts h };
+
+    ghost parts_nest = { λ parts times k h m. part_nests (K.hash_of k) parts times };
 
     fn cursor(&self, part: u32, parts: u32) -> Cursor {
         Cursor {
