@@ -2,3 +2,4 @@ mod Finding
 mod Indexing
 mod Chaining
 mod Whole
+mod Joining

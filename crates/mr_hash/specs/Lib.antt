@@ -2,3 +2,4 @@ pub mod Slots
 pub mod Pairs
 pub mod Buckets
 pub mod Chaining
+pub mod Joined

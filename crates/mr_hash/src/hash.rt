@@ -7,7 +7,7 @@ ghost use Rattle.std.proofs.Common.{ap, refl};
 ghost use Rattle.mr_container.specs.Laws.{any_order, kept};
 ghost use Rattle.mr_hash.specs.Pairs.{pairs_of};
 
-use crate::ahead::NOWHERE;
+use crate::ahead::{NO_CLUE, NOWHERE, read_pairs};
 use crate::near::{Near, emit_all};
 use crate::table::Table;
 use mr_base::{Faults, Key, Memory, keep_lesser};
@@ -15,18 +15,35 @@ use mr_combine::Combiner;
 use mr_container::{Cursor, Local, Parted};
 use std::alloc::Global;
 use std::boxed::Box;
+use std::mem;
 
-// So many pairs of a block are looked for side by side: as many as mappers hand over at once, and more.
-const SIDE_BY_SIDE: usize = 1024;
+// So many pairs of a block are looked for side by side: as many as mappers hand over at once, who wait for 256 and may go some words beyond.
+const SIDE_BY_SIDE: usize = 512;
+
+// A table that is made in the place of one that was given away has room for so many cells, with an index of 131072 slots.
+const ROOM: usize = 65536;
+
+// A table of fewer cells is not given away: its index fits the cache of one processor. So many are three quarters of the room, so that a worker
+// that asks after each task gives its table away before the index grows once more.
+const FULL: usize = 49152;
+
+// A table combines little where at most so many pairs were emitted for so many cells. One that combines more is kept, since most of the pairs
+// to come will find their keys there.
+const FEW_PAIRS: u64 = 6;
+
+const FOR_CELLS: u64 = 5;
 
 /// Keys with their cells, in N buckets, where N is from 1 to 65536.
 ///
 /// Every key is inside. A key stands in the bucket of its hash modulo N, and its partition is that bucket modulo the number of partitions.
+/// Where the combiner is fixed, it is spilled from 49152 cells on, if no more than six pairs were emitted for five cells.
 #[derive(Drop)]
 pub struct HashLocal<K: Key, C: Combiner, const N: usize> {
     table: Table<K, C, N>,
     // In a box, so that the size of a local doesn't hang on its keys'.
     faults: Box<Faults<K>>,
+    // How many pairs were emitted since the table had no entry, modulo 2^64.
+    pairs: u64,
     alloc: Global,
 }
 
@@ -39,13 +56,29 @@ impl<K: Key, C: Combiner, const N: usize> HashLocal<K, C, N> {
         ensures inside { (k : K) → ⟦<HashLocal<K, C, N> as Parted>⟧.inside k ≡ true }
         ensures parts { (parts : ℕ) (k : K) → ⟦<HashLocal<K, C, N> as Parted>⟧.part_of parts k ≡ K.hash_of k % N % parts }
     {
-        let table = Table::new(alloc)?;
+        HashLocal::with_room(alloc, 0)
+    }
+
+    // A local with no cell, and with room for so many.
+    fn with_room(alloc: Global, cells: usize) -> Result<HashLocal<K, C, N>, Memory>
+        requires some { 1 ≤ N }
+        requires few { N ≤ greatest_capacity }
+        ensures { IfOk result (λ local. ⟦<HashLocal<K, C, N> as Local>⟧.stands local []) }
+    {
+        let table = Table::with_room(alloc, cells)?;
         let faults = Box::new(alloc, Faults::none())?;
         Ok(HashLocal {
             table,
             faults,
+            pairs: 0,
             alloc,
         })
+    }
+
+    // Whether the table has grown large and combines little.
+    fn combines_little(&self) -> bool {
+        let cells = self.table.entries.len();
+        cells >= FULL && self.pairs.saturating_mul(FOR_CELLS) <= cells as u64 * FEW_PAIRS
     }
 }
 
@@ -103,13 +136,26 @@ impl<K: Key, C: Combiner, const N: usize> Local for HashLocal<K, C, N> {
     ghost origin_trans = { λ _ _ _ _ _. tt };
 
     fn emit(&mut self, key: K, value: C::Value) -> Result<(), Memory> {
+        self.pairs = self.pairs.wrapping_add(1);
         self.emit_near(NOWHERE as usize, key, value)
     }
 
     fn emit_block(&mut self, block: &mut Vec<(K, C::Value)>) -> Result<(), Memory> {
+        let mut clues = [NO_CLUE; SIDE_BY_SIDE];
         let mut places = [NOWHERE; SIDE_BY_SIDE];
-        self.table.look_ahead(block, &mut places);
+        let count = block.len().min(SIDE_BY_SIDE);
+        read_pairs(block, &mut clues);
+        self.table.look_ahead(&clues[..count], &mut places);
+        self.pairs = self.pairs.wrapping_add(block.len() as u64);
         emit_all(self, &places, block)
+    }
+
+    fn spill(&mut self, alloc: Global) -> Result<Option<HashLocal<K, C, N>>, Memory> {
+        if !C::is_fixed() || !self.combines_little() {
+            return Ok(None);
+        }
+        let fresh = HashLocal::with_room(alloc, ROOM)?;
+        Ok(Some(mem::replace(self, fresh)))
     }
 
     fn too_large(&mut self, key: K) {
@@ -133,7 +179,7 @@ impl<K: Key, C: Combiner, const N: usize> Parted for HashLocal<K, C, N> {
     ghost use Rattle.std.specs.Prelude.{◌≡◌, ◌≤◌, ◌%◌, true, is_some, drop};
     ghost use Rattle.std.specs.FinMap.{find};
     ghost use Rattle.std.proofs.Common.{ap};
-    ghost use Rattle.mr_container.specs.Laws.{both_true, never_outside, part_below};
+    ghost use Rattle.mr_container.specs.Laws.{both_true, never_outside, part_below, part_nests};
     ghost use Rattle.mr_hash.specs.Pairs.{pairs_of};
     ghost use Rattle.mr_hash.specs.Buckets.{of_partition};
 
@@ -162,6 +208,8 @@ impl<K: Key, C: Combiner, const N: usize> Parted for HashLocal<K, C, N> {
     ghost spares_outside = { λ s k e. never_outside e };
 
     ghost parts_below = { λ parts k h. part_below (K.hash_of k % N) parts h };
+
+    ghost parts_nest = { λ parts times k h m. part_nests (K.hash_of k % N) parts times };
 
     fn arrange(&mut self, alloc: Global, parts: u32) -> Result<(), Memory> {
         if parts > 1 {

@@ -56,9 +56,9 @@ pub fn emit_all<L: Near>(
     Ok(())
 }
 
-// The place that is near the key of the nth pair of a block.
+/// The place that is near the nth key of a block.
 #[inline(always)]
-fn place_of(places: &[u32], nth: usize) -> usize {
+pub fn place_of(places: &[u32], nth: usize) -> usize {
     if nth < places.len() {
         places[nth] as usize
     } else {

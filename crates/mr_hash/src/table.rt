@@ -10,7 +10,7 @@ ghost use Rattle.mr_hash.specs.Chaining.{IsChained, IsChained-prop};
 ghost use Rattle.mr_hash.specs.Pairs.{pairs_of, keys_of};
 ghost use Rattle.mr_hash.specs.Slots.{Indexed, Indexed-prop};
 
-use crate::ahead::{near_places, same_leads, slot_words};
+use crate::ahead::{Clue, near_places, same_leads, slot_words};
 use crate::chains::{Chains, chained, no_chains};
 use crate::entry::Entry;
 use crate::slots::{empty_index, free_slot, indexed, place_at, slot_at, tag_at, word_at};
@@ -28,7 +28,8 @@ const MOST_SLOTS: usize = 4294967296;
 
 /// Keys with their cells, in the order in which the keys came, an index that finds them by their code, and the bucket of each.
 ///
-/// At most half of the index is full.
+/// Values are emitted into it pair by pair, and the cells of other tables are joined into it entry by entry. At most half of the index is
+/// full.
 #[derive(Drop)]
 pub struct Table<K: Key, C: Combiner, const N: usize> {
     pub entries: Vec<Entry<K, C::Cell>>,
@@ -51,19 +52,22 @@ pub struct Table<K: Key, C: Combiner, const N: usize> {
 }
 
 impl<K: Key, C: Combiner, const N: usize> Table<K, C, N> {
-    /// A table with no entry.
-    pub fn new(alloc: Global) -> Result<Table<K, C, N>, Memory>
+    /// A table with no entry, and with room for so many or more before its index grows, as far as an index can grow.
+    pub fn with_room(alloc: Global, cells: usize) -> Result<Table<K, C, N>, Memory>
         requires some { 1 ≤ N }
         requires few { N ≤ greatest_capacity }
         ensures { IfOk result (λ table. table.entries.items ≡ []) }
     {
-        let index = empty_index(alloc, FEWEST_SLOTS)?;
+        let (size, shift) = slots_for(cells);
+        let index = empty_index(alloc, size)?;
+        let entries = Vec::with_capacity(alloc, size / 2)?;
+        let buckets = Vec::with_capacity(alloc, size / 2)?;
         Ok(Table {
-            entries: Vec::new(alloc),
-            buckets: Vec::new(alloc),
+            entries,
+            buckets,
             chains: no_chains(alloc),
             index,
-            shift: FIRST_SHIFT,
+            shift,
         })
     }
 
@@ -96,6 +100,40 @@ impl<K: Key, C: Combiner, const N: usize> Table<K, C, N> {
             None => {
                 let cell = C::unit(alloc, value)?;
                 self.insert(alloc, key, cell)?;
+                Ok(())
+            }
+        }
+    }
+
+    /// Merges the cell into that of its key, which may stand at the place that is near; copies both where the key is new. After `Memory` the
+    /// entries and the index are unchanged.
+    #[inline(always)]
+    pub fn join(
+        &mut self,
+        alloc: Global,
+        near: usize,
+        key: &K,
+        cell: &C::Cell,
+    ) -> Result<(), Memory>
+        ensures cells { OnOk result ((q : K) → find K.cmp q (pairs_of self.new.entries.items)
+            ≡ cond (eq_by_cmp K.cmp q key.now) (joined C.merged (find K.cmp key.now (pairs_of self.old.entries.items)) (Some cell.now))
+            (find K.cmp q (pairs_of self.old.entries.items))) }
+        ensures len { OnOk result (length self.new.entries.items
+            ≡ cond (is_some (find K.cmp key.now (pairs_of self.old.entries.items))) (length self.old.entries.items)
+            (length self.old.entries.items + 1)) }
+        ensures err { OnErr result (self.new.entries.items ≡ self.old.entries.items) }
+        ensures index { OnErr result (self.new.index.items ≡ self.old.index.items) }
+        ensures no_memory { C.fixed ≡ true → is_some (find K.cmp key.now (pairs_of self.old.entries.items)) ≡ true → IsOk result }
+    {
+        match self.find(near, key) {
+            Some(at) => {
+                let entry = &mut self.entries[at];
+                C::merge(&mut entry.cell, cell)
+            }
+            None => {
+                let copied = key.copy(alloc)?;
+                let first = C::copy(alloc, cell)?;
+                self.insert(alloc, copied, first)?;
                 Ok(())
             }
         }
@@ -188,20 +226,19 @@ impl<K: Key, C: Combiner, const N: usize> Table<K, C, N> {
 impl<K: Key, C: Combiner, const N: usize> Table<K, C, N> {
     ghost use Rattle.std.specs.Prelude.{◌≡◌, ◌≢◌, ◌<◌, ◌≤◌, ◌%◌, ℕ, length, slice_index};
 
-    /// Finds where the keys of a block may stand, place by place; a number that is no place where none is near.
+    /// Finds where the keys with these clues may stand, place by place; a number that is no place where none is near.
     // Each step is a small loop of its own, whose loads wait for nothing, so that many are under way at once.
-    pub fn look_ahead<V>(&self, block: &[(K, V)], places: &mut [u32])
+    pub fn look_ahead(&self, clues: &[Clue], places: &mut [u32])
         ensures { length places.new ≡ length places.old }
     {
-        slot_words(&self.index, self.shift, block, places);
-        near_places(&self.index, self.shift, self.entries.len(), block, places);
-        same_leads(&self.entries, block, places);
+        slot_words(&self.index, self.shift, clues, places);
+        near_places(&self.index, self.shift, self.entries.len(), clues, places);
+        same_leads(&self.entries, clues, places);
     }
 
     /// Chains the entries of each of so many partitions, so that none of another is passed. Takes 4 bytes an entry.
     pub fn chain(&mut self, alloc: Global, parts: u32) -> Result<(), Memory>
-        requires some { 1 ≤ parts }
-        requires few { parts ≤ 64 }
+        requires { 1 ≤ parts }
         ensures { self.new.entries.items ≡ self.old.entries.items }
     {
         self.chains = chained(alloc, &self.buckets, parts)?;
@@ -238,11 +275,29 @@ impl<K: Key, C: Combiner, const N: usize> Table<K, C, N> {
     }
 }
 
-// The bucket of a key: its hash modulo N.
+// How many slots an index has of which so many entries fill no more than half, and its shift.
+fn slots_for(cells: usize) -> (usize, u32)
+    ensures some { 16 ≤ result.0 }
+    ensures few { result.0 ≤ 4294967296 }
+    ensures shift { result.1 < 64 }
+{
+    let mut size = FEWEST_SLOTS;
+    let mut shift = FIRST_SHIFT;
+    while size / 2 < cells && size <= MOST_SLOTS / 2 {
+        size *= 2;
+        shift = shift.saturating_sub(1);
+    }
+    (size, shift)
+}
+
+// The bucket of a key: its hash modulo N. A hash takes time, so none is taken where there is one bucket.
 fn bucket_of<K: Key, const N: usize>(key: &K) -> u16
     requires some { 1 ≤ N }
     requires few { N ≤ greatest_capacity }
     ensures { result ≡ K.hash_of key.now % N }
 {
+    if N == 1 {
+        return 0;
+    }
     (key.hash() % N as u64) as u16
 }
