@@ -13,7 +13,8 @@ use Rattle.mr_defs.specs.CommutativeLaws.{joined-assoc}
 use Rattle.mr_container.proofs.Orders.{is_Equal}
 use Rattle.mr_defs.specs.Emission.{Answer}
 use Rattle.mr_defs.specs.Keyed.{lesser}
-use Rattle.mr_phase.specs.Folded.{cell_in, fold_from, fold_equal, seen_of}
+use Rattle.mr_container.specs.Entries.{cell_in, seen_of}
+use Rattle.mr_phase.specs.Folded.{fold_from, fold_equal}
 use Rattle.mr_phase.specs.Partition.{AreFolded}
 use Rattle.mr_phase.specs.Reduced.{entry_row, over_key}
 use Rattle.mr_phase.specs.Taking.{AreInOrder, AreTaken}
@@ -137,6 +138,16 @@ module _ {K C : Type 0} (R : K → K → Ordering) (merged : C → C → C) (ove
       → seen_of (taken ++ e ∷ []) ++ rest ≡ seen_of taken ++ (e.0.now, e.1.now) ∷ rest
   seen_more [] e rest = refl
   seen_more (x ∷ taken) e rest = ap (λ l. (x.0.now, x.1.now) ∷ l) (seen_more taken e rest)
+
+  -- there is none
+  pub folded_none : (all entries : List (Bor K × Bor C)) (made : Partition K) → made.rows ≡ [] → made.over ≡ None → entries ≡ all
+      → AreInOrder R entries [] → AreFolded R merged over answer all made
+  folded_none all entries made none least same whole = record {
+    sorted = [];
+    in_order = subst (λ l. AreInOrder R l []) same whole;
+    rows_are = none;
+    over_is = least;
+  }
 
   -- the first is taken
   pub folding_first : (a : Ahead K C) (e : Bor K × Bor C) (made : Partition K) → made.rows ≡ [] → made.over ≡ None

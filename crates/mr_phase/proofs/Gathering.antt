@@ -2,7 +2,7 @@
 use Rattle.std.proofs.Common.{◌≡◌, ℕ, suc, ◌+◌, ◌<◌, ◌==◌, Bool, true, false, cond, if◌then◌else◌, T, List, [], ◌∷◌, ◌++◌, length, get_or}
 use Rattle.std.proofs.Common.{take, map, Option, Some, None, refl, sym, ap, subst, ◌∙◌, arith, IsPermutation, append_assoc, append-nil, Bor}
 use Rattle.std.specs.List.{IsDistinct, AllByRecursion}
-use Rattle.std.specs.List.Sorted.{IsSortedByKey}
+use Rattle.std.specs.List.Sorted.{IsSortedByKey, IsStrictlySortedBy}
 use Rattle.std.specs.declared.cmp.Ordering.{Ordering}
 use Rattle.std.specs.Ordering.{eq_by_cmp, is_lt, is_eq}
 use Rattle.std.specs.Cmp.{IsTotalOrder}
@@ -13,10 +13,14 @@ use Rattle.std.proofs.lemmas.List.Sorted.{sorted_far, ranks_by, IsPermutation-ma
 use Rattle.std.proofs.lemmas.Map.Keys.{IsDistinct-head, IsDistinct-tail}
 use Rattle.mr_defs.specs.Commutative.{IsCommutative, joined, joined_by}
 use Rattle.mr_defs.specs.CommutativeLaws.{joined_by-append, joined_by-push, joined_by-IsPermutation}
+use Rattle.mr_defs.specs.Emission.{Answer}
 use Rattle.mr_container.specs.Partition.{IsPartition}
 use Rattle.mr_container.proofs.Orders.{is_Equal, is_Less, both_first, both_second}
-use Rattle.mr_phase.specs.Folded.{cell_in, fold_equal, seen_of}
-use Rattle.mr_phase.specs.Partition.{HasPartition}
+use Rattle.mr_container.specs.Entries.{cell_in, seen_of}
+use Rattle.mr_phase.specs.Folded.{fold_equal}
+use Rattle.mr_phase.specs.Partition.{AreFolded, HasPartition, IsReducedAt}
+use Rattle.mr_phase.specs.declared.partition.Partition.{Partition}
+use Rattle.mr_phase.proofs.Final.{rows_ascend}
 use Rattle.mr_phase.proofs.Folding.{AreFrom, Rises, folded_sorted, folded_same}
 
 module _ {K C : Type 0} (R : K → K → Ordering) (one : IsAntisymmetric R) (op : C → C → C) (q : K) where
@@ -116,7 +120,7 @@ module _ {K C : Type 0} {R : K → K → Ordering} (o : IsTotalOrder R) where
 module _ {K C X : Type 0} {R : K → K → Ordering} (o : IsTotalOrder R) (one : IsAntisymmetric R) {merged : C → C → C}
     (laws : IsCommutative merged) (cell : X → K → Option C) (part_of : K → ℕ) (part : ℕ) where
   -- the entries that were gathered, sorted and folded
-  pub folded_found : (xs : List X) (gathered sorted : List (Bor K × Bor C)) → Gathered R merged cell part_of part xs (seen_of gathered)
+  folded_found : (xs : List X) (gathered sorted : List (Bor K × Bor C)) → Gathered R merged cell part_of part xs (seen_of gathered)
       → IsPermutation gathered sorted → IsSortedByKey (λ e. e.0.now) R sorted
       → T (is_sorted R (fold_equal R merged (seen_of sorted)))
       × ((k : K)
@@ -131,6 +135,23 @@ module _ {K C X : Type 0} {R : K → K → Ordering} (o : IsTotalOrder R) (one :
             ∙ joined_by-IsPermutation laws (cell_in R k) (seen_of gathered) (seen_of sorted)
             (let value : Bor K × Bor C → K × C = λ x. (x.0.now, x.1.now) in IsPermutation-map value gathered sorted same)
             ∙ all k,
+      )
+
+  -- a partition of the entries that were gathered, sorted, folded and reduced
+  pub reduced_at : (over : C → Bool) (answer : C → Answer) (xs : List X) (gathered : List (Bor K × Bor C)) (p : Partition K)
+      → Gathered R merged cell part_of part xs (seen_of gathered) → AreFolded R merged over answer gathered p
+      → IsReducedAt R (λ k. joined_by merged (λ h. cell h k) xs) part_of over answer part p
+  reduced_at over answer xs gathered p all folds =
+      let found = folded_found xs gathered folds.sorted all folds.in_order.same folds.in_order.rises in (
+        subst (λ rows. IsStrictlySortedBy R (map (λ r. r.0) rows)) (sym folds.rows_are)
+            (rows_ascend R over answer (fold_equal R merged (seen_of folds.sorted)) found.0),
+        record {
+          entries = fold_equal R merged (seen_of folds.sorted);
+          sorted = found.0;
+          found = found.1;
+          rows_are = folds.rows_are;
+          over_is = folds.over_is;
+        },
       )
 
 -- of a list that gains a partition, how far the cursor is: what was read, and what is ahead

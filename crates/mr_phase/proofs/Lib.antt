@@ -1,11 +1,13 @@
 pub mod InTurn
 pub mod Blocking
 pub mod Taken
+pub mod Held
 pub mod Sorts
 pub mod SameKeys
 pub mod Final
 pub mod Folding
 pub mod Gathering
+pub mod Finer
 pub mod Partitions
 pub mod Everyone
 pub mod Finish

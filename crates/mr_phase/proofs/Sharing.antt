@@ -52,7 +52,7 @@ pub poured_all : {X Y : Type 0} (f : X → List Y) (whole all sorted : List Y) (
 poured_all f whole all sorted shares none p q =
     IsPermutation-trans whole all sorted (subst (IsPermutation whole) (ap (λ l. all ++ flat_map f l) none ∙ append-nil all) q) p
 
-itself_all : (ts : List ℕ) → flat_map itself ts ≡ ts
+pub itself_all : (ts : List ℕ) → flat_map itself ts ≡ ts
 itself_all [] = refl
 itself_all (t ∷ ts) = ap (λ l. t ∷ l) (itself_all ts)
 

@@ -141,7 +141,7 @@ any_default [] i d e h = absurd (omega (arith, h))
 any_default (x ∷ xs) zero d e h = refl
 any_default (x ∷ xs) (suc i) d e h = any_default xs i d e (omega (arith, h))
 
-first_of_list : {X : Type 0} (xs : List X) → 0 < length xs → X
+pub first_of_list : {X : Type 0} (xs : List X) → 0 < length xs → X
 first_of_list [] h = absurd (omega (arith, h))
 first_of_list (x ∷ xs) h = x
 
@@ -169,12 +169,12 @@ together {P} {L} given (p ∷ ps) (y ∷ ys) len h =
     (together given ps ys (omega (arith, len)) (λ i q z lt. h (suc i) q z (omega (arith, lt))))
 
 -- an item that stands at a place
-within : {X : Type 0} (xs : List X) (i : ℕ) (x : X) → slice_get xs i ≡ Some x → i < length xs
+pub within : {X : Type 0} (xs : List X) (i : ℕ) (x : X) → slice_get xs i ≡ Some x → i < length xs
 within [] i x e = absurd (none-some x e)
 within (y ∷ ys) zero x e = omega arith
 within (y ∷ ys) (suc i) x e = let r = within ys i x e in omega (arith, r)
 
-there : {X : Type 0} (xs : List X) (i : ℕ) (x : X) → slice_get xs i ≡ Some x → x ≡ slice_index_or xs i x
+pub there : {X : Type 0} (xs : List X) (i : ℕ) (x : X) → slice_get xs i ≡ Some x → x ≡ slice_index_or xs i x
 there xs i x e = same_Some x (slice_index_or xs i x) (sym e ∙ slice_get-get_or xs i x (within xs i x e))
 
 module _ {P L E : Type 0} (is_of : P → Type 0) (number : P → ℕ) (given : P → List ℕ) (ended : P → Bool) (same_origin : L → L → Type 0)

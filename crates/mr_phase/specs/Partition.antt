@@ -10,7 +10,8 @@ use Rattle.mr_defs.specs.Emission.{Answer, Row}
 use Rattle.mr_defs.specs.Keyed.{lesser}
 use Rattle.mr_base.specs.Spare.{Spared}
 use Rattle.mr_container.specs.Partition.{IsPartition}
-use Rattle.mr_phase.specs.Folded.{fold_equal, seen_of}
+use Rattle.mr_container.specs.Entries.{seen_of}
+use Rattle.mr_phase.specs.Folded.{fold_equal}
 use Rattle.mr_phase.specs.Reduced.{entry_row, over_key}
 use Rattle.mr_phase.specs.Taking.{AreInOrder}
 use Rattle.mr_phase.specs.declared.partition.Partition.{Partition}

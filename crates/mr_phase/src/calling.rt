@@ -9,7 +9,7 @@ ghost use Rattle.mr_base.specs.Noting.{noted_of};
 ghost use Rattle.mr_phase.specs.Spread.{IsSpreadOf};
 
 use crate::mapped::Mapped;
-use crate::partition::reduce_partition;
+use crate::partition::reduce_read;
 use crate::together::{Reduced, together};
 use mr_base::Memory;
 use mr_combine::Reducer;
@@ -35,7 +35,8 @@ pub fn gather<L: Parted, R: Reducer<L::Fold>>(
         → IsPermutation all (flat_map (λ h. h.tasks.items) mapped.now)
         → IsSpreadOf L.Key.cmp L.inside R.folded r.lists.items (noted_of r.faults) (flat_map pairs all)) }
 {
-    let only = reduce_partition::<L, R>(alloc, mapped, 0, 1)?;
+    // Hands that are not arranged are read once: each finer part would be read past the keys of all others.
+    let only = reduce_read::<L, R>(alloc, mapped, 0, 1)?;
     let mut partitions = Vec::new(alloc);
     partitions.push(only)?;
     let reduced = together::<L, R>(alloc, mapped, 1, partitions)?;

@@ -13,6 +13,7 @@ ghost use Rattle.mr_common.specs.Passes.{ArePassesOf, IsUnused};
 ghost use Rattle.mr_phase.specs.Common.{AreWon, IsLeft, hand_of};
 ghost use Rattle.mr_phase.specs.Spread.{noted_all};
 
+use crate::hands::turned;
 use crate::map::map_phase;
 use crate::mapped::Mapped;
 use mr_base::{Faults, Few, Memory, NumKey, Rows, TaskQueues};
@@ -94,18 +95,6 @@ fn leave_all<'a>(alloc: Global, mapped: Mapped<CommonLocal<'a>>) -> Result<Left,
     })
 }
 
-// The same items, the last first.
-fn turned<T: Drop>(alloc: Global, mut items: Few<T>) -> Result<Few<T>, Memory>
-    ensures { IfOk result (λ r. r.items ≡ reverse items.items) }
-{
-    let mut turned = Few::with_room(alloc, 0)?;
-    while let Some(item) = items.pop() {
-        turned.room()?;
-        turned.push(item);
-    }
-    Ok(turned)
-}
-
 // Maps each task once, into the array by the pass of the worker that took it.
 fn map_into<
     R: Threads + Sync,
@@ -130,7 +119,7 @@ fn map_into<
     ensures { IfOk result (IsLeft array.now (Q.count queues) (M.task_count mapper.now) (M.task_emissions mapper.now)) }
 {
     let locals = locals_over(alloc, array, own)?;
-    let mapped = map_phase(rt, alloc, queues, passes, locals, mapper, gate)?;
+    let mapped = map_phase(rt, alloc, queues, passes, locals, mapper, gate, false)?;
     leave_all(alloc, mapped)
 }
 

@@ -15,6 +15,7 @@ mod calling;
 mod common;
 mod entries;
 mod hands;
+mod joined;
 mod map;
 mod mapped;
 mod order;

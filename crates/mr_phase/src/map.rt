@@ -3,9 +3,11 @@ ghost use Rattle.std.specs.List.{range_with_len};
 ghost use Rattle.std.specs.List.Sorted.{IsPermutation};
 ghost use Rattle.mr_base.specs.Tasks.{AreAll, AreUnused};
 ghost use Rattle.mr_phase.specs.declared.hands.Hand.{Hand};
+ghost use Rattle.mr_phase.specs.Held.{HoldsFor, IsOfOrigin};
+ghost use Rattle.mr_phase.specs.Partition.{itself};
 ghost use Rattle.mr_phase.specs.Works.{AreOf, AreFrom, IsFresh, AreFresh, IsDone, AreDone};
 
-use crate::hands::Hand;
+use crate::hands::{Hand, Held, hands_of, hold_each};
 use crate::mapped::Mapped;
 use mr_base::{Few, Memory, TaskQueues};
 use mr_container::{Local, Mapper};
@@ -33,11 +35,13 @@ fn work_through<Q: TaskQueues, L: Local, M: Mapper<Key = L::Key, Value = L::Valu
     queues: &Q,
     mapper: &M,
     gate: &G,
-    work: &mut Work<Q::Pass, L>,
+    spills: bool,
+    work: &mut Work<Q::Pass, Held<L>>,
 )
     requires total { Q.total queues.now ≡ M.task_count mapper.now }
-    requires fresh { IsFresh (Q.is_of queues.now) Q.number Q.given L.stands work.old }
-    ensures { IsDone (Q.is_of queues.now) Q.number Q.given Q.ended L.same_origin L.stands (M.task_emissions mapper.now) work.old work.new }
+    requires fresh { IsFresh (Q.is_of queues.now) Q.number Q.given (HoldsFor spills L.stands (M.task_emissions mapper.now)) work.old }
+    ensures { IsDone (Q.is_of queues.now) Q.number Q.given Q.ended (IsOfOrigin L.same_origin)
+        (HoldsFor spills L.stands (M.task_emissions mapper.now)) itself work.old work.new }
 {
     loop {
         if work.tasks.room().is_err() {
@@ -49,7 +53,7 @@ fn work_through<Q: TaskQueues, L: Local, M: Mapper<Key = L::Key, Value = L::Valu
         };
         work.tasks.push(task);
         gate.enter(work.worker, task);
-        let Ok(()) = mapper.map(alloc, task, &mut work.local) else {
+        let Ok(()) = work.local.map(alloc, mapper, task, spills) else {
             work.starved = true;
             return;
         };
@@ -63,23 +67,32 @@ fn run_all<
     L: Local + Send + Drop,
     M: Mapper<Key = L::Key, Value = L::Value> + Sync,
     G: Gate + Sync,
->(rt: &R, alloc: Global, queues: &Q, mapper: &M, gate: &G, works: &mut Few<Work<Q::Pass, L>>)
+>(
+    rt: &R,
+    alloc: Global,
+    queues: &Q,
+    mapper: &M,
+    gate: &G,
+    spills: bool,
+    works: &mut Few<Work<Q::Pass, Held<L>>>,
+)
 where
     L::Key: Send,
     L::Value: Send,
     requires some { 0 < length works.old.items }
     requires total { Q.total queues.now ≡ M.task_count mapper.now }
-    requires fresh { AreFresh (Q.is_of queues.now) Q.number Q.given L.stands works.old.items }
+    requires fresh { AreFresh (Q.is_of queues.now) Q.number Q.given (HoldsFor spills L.stands (M.task_emissions mapper.now)) works.old.items }
     ensures len { length works.new.items ≡ length works.old.items }
-    ensures done { AreDone (Q.is_of queues.now) Q.number Q.given Q.ended L.same_origin L.stands
-        (M.task_emissions mapper.now) works.old.items works.new.items }
+    ensures done { AreDone (Q.is_of queues.now) Q.number Q.given Q.ended (IsOfOrigin L.same_origin)
+        (HoldsFor spills L.stands (M.task_emissions mapper.now)) itself works.old.items works.new.items }
 {
     let count = works.len();
-    let work_one = |_: usize, work: &mut Work<Q::Pass, L>|
-        requires { (Q.total queues.now ≡ M.task_count mapper.now) × IsFresh (Q.is_of queues.now) Q.number Q.given L.stands work.old }
-        ensures { IsDone (Q.is_of queues.entry.now) Q.number Q.given Q.ended L.same_origin L.stands
-            (M.task_emissions mapper.entry.now) work.old work.new }
-    { work_through(alloc, queues, mapper, gate, work) };
+    let work_one = |_: usize, work: &mut Work<Q::Pass, Held<L>>|
+        requires { (Q.total queues.now ≡ M.task_count mapper.now)
+            × IsFresh (Q.is_of queues.now) Q.number Q.given (HoldsFor spills L.stands (M.task_emissions mapper.now)) work.old }
+        ensures { IsDone (Q.is_of queues.entry.now) Q.number Q.given Q.ended (IsOfOrigin L.same_origin)
+            (HoldsFor spills L.stands (M.task_emissions mapper.entry.now)) itself work.old work.new }
+    { work_through(alloc, queues, mapper, gate, spills, work) };
     thread::for_each_mut(rt, works.as_mut_slice(), count, &work_one);
 }
 
@@ -137,8 +150,10 @@ pub(crate) fn dismiss<P: Drop, L: Drop>(
 /// Maps each task once, into the local of the worker that took it. Worker `w` has pass `w`, and enters the gate as `w` before each of its
 /// tasks; it runs in a thread of its own where one can be made.
 ///
-/// The hands stand in the order of the passes, each with the local that was given at its place. A worker that finds no memory stops; the
-/// others end, and the answer is `Memory`.
+/// Where `spills`, a worker gives its local away whenever that `spill`s, as a hand of its own with the tasks for which it stands; the hands
+/// are those that were given away and the last one of each worker. Otherwise there is one hand a worker: they stand in the order of the
+/// passes, each with the local that was given at its place. A worker that finds no memory stops; the others end, and the answer is
+/// `Memory`.
 pub fn map_phase<
     R: Threads + Sync,
     Q: TaskQueues + Sync + Drop,
@@ -153,6 +168,7 @@ pub fn map_phase<
     locals: Few<L>,
     mapper: &M,
     gate: &G,
+    spills: bool,
 ) -> Result<Mapped<L>, Memory>
 where
     L::Key: Send,
@@ -161,16 +177,18 @@ where
     requires few { (0 < Q.count queues) × (Q.count queues ≤ 32) }
     requires locals { (length locals.items ≡ length passes.items) × All (λ local. L.stands local []) locals.items }
     requires total { Q.total queues ≡ M.task_count mapper.now }
-    ensures count { IfOk result (λ hands. length hands ≡ Q.count queues) }
+    ensures count { spills ≡ false → IfOk result (λ hands. length hands ≡ Q.count queues) }
     ensures once { IfOk result (λ hands. IsPermutation (range_with_len 0 (M.task_count mapper.now)) (flat_map (λ h. h.tasks.items) hands)) }
     ensures stands { IfOk result (λ hands. All (λ h. L.stands h.local (flat_map (M.task_emissions mapper.now) h.tasks.items)) hands) }
-    ensures origin { IfOk result
+    ensures origin { spills ≡ false → IfOk result
         (λ hands. (i : ℕ) (l : L) (h : Hand L) → slice_get locals.items i ≡ Some l → slice_get hands i ≡ Some h → L.same_origin l h.local) }
 {
-    let hands = Few::with_room(alloc, passes.len() as u32)?;
-    let mut works = equip(alloc, &mut passes, locals)?;
-    run_all(rt, alloc, &queues, mapper, gate, &mut works);
-    let (passes, hands) = dismiss(works, passes, hands)?;
+    let workers = Few::with_room(alloc, passes.len() as u32)?;
+    let helds = hold_each(alloc, locals)?;
+    let mut works = equip(alloc, &mut passes, helds)?;
+    run_all(rt, alloc, &queues, mapper, gate, spills, &mut works);
+    let (passes, workers) = dismiss(works, passes, workers)?;
     queues.finish(passes);
+    let hands = hands_of(alloc, workers)?;
     Ok(Mapped { hands })
 }

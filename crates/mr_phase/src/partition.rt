@@ -1,13 +1,14 @@
-ghost use Rattle.std.specs.Prelude.{◌≡◌, ◌==◌, ◌<◌, ◌≤◌, ◌++◌, [], None, if◌then◌else◌, IfOk, OnOk, filter_map};
+ghost use Rattle.std.specs.Prelude.{◌≡◌, ◌==◌, ◌<◌, ◌≤◌, ◌++◌, [], None, if◌then◌else◌, IfOk, OnOk};
 ghost use Rattle.std.specs.List.{cons_option};
 ghost use Rattle.mr_defs.specs.Commutative.{joined, joined_by};
 ghost use Rattle.mr_defs.specs.Keyed.{lesser};
-ghost use Rattle.mr_phase.specs.Folded.{cell_in, seen_of};
+ghost use Rattle.mr_container.specs.Entries.{cell_in, seen_of};
 ghost use Rattle.mr_phase.specs.Partition.{AreFolded, IsReducedAt};
 ghost use Rattle.mr_phase.specs.Reduced.{entry_row, over_key};
 
 use crate::ahead::{Ahead, are_equal};
 use crate::entries::add_part;
+use crate::joined::reduce_joined;
 use crate::mapped::Mapped;
 use mr_base::{Key, Memory, Rows, keep_lesser};
 use mr_combine::{Combiner, Reducer};
@@ -45,30 +46,31 @@ impl<K: Key> Partition<K> {
     }
 }
 
-// The entries of one part of all hands, hand by hand: a key stands once for each hand that has it.
-fn read_hands<L: Parted>(
-    alloc: Global,
-    mapped: &Mapped<L>,
+/// Reads the entries of one part of all hands into a list in place of what it had, hand by hand: a key stands once for each hand that has it.
+pub(crate) fn read_hands<'a, L: Parted>(
+    mapped: &'a Mapped<L>,
     part: u32,
     parts: u32,
-) -> Result<Vec<(&L::Key, &<L::Fold as Combiner>::Cell)>, Memory>
+    entries: &mut Vec<(&'a L::Key, &'a <L::Fold as Combiner>::Cell)>,
+) -> Result<(), Memory>
     requires some { 1 ≤ parts }
-    requires few { parts ≤ 64 }
     requires part { part < parts }
-    ensures { IfOk result (λ entries. (k : L.Key) → joined_by L.Fold.merged (cell_in L.Key.cmp k) (seen_of entries.items)
+    ensures { OnOk result ((k : L.Key) → joined_by L.Fold.merged (cell_in L.Key.cmp k) (seen_of entries.new.items)
         ≡ (if L.part_of parts k == part then joined_by L.Fold.merged (λ h. L.cell h.local k) mapped.now else None)) }
 {
-    let mut entries = Vec::new(alloc);
+    entries.clear();
     for hand in mapped.hands.as_slice() {
-        add_part(&hand.local, part, parts, &mut entries)?;
+        add_part(&hand.local, part, parts, entries)?;
     }
-    Ok(entries)
+    Ok(())
 }
 
-// Merges the entries of one key, the cell of the first copied and the others merged into it, and reduces what they come to.
-fn reduce_entries<'a, K: Key, C: Combiner, R: Reducer<C>>(
+/// Merges the entries of one key, the cell of the first copied and the others merged into it, and reduces what they come to. Room for so
+/// many rows is taken at once.
+pub(crate) fn reduce_entries<'a, K: Key, C: Combiner, R: Reducer<C>>(
     alloc: Global,
     part: u32,
+    room: usize,
     entries: Vec<(&'a K, &'a C::Cell)>,
 ) -> Result<Partition<K>, Memory>
     ensures part { IfOk result (λ p. p.part ≡ part) }
@@ -76,7 +78,7 @@ fn reduce_entries<'a, K: Key, C: Combiner, R: Reducer<C>>(
 {
     let mut made = Partition {
         part,
-        rows: Rows::new(alloc),
+        rows: Rows::from_entries(Vec::with_capacity(alloc, room)?),
         over: None,
     };
     let mut ahead = Ahead::of(alloc, entries)?;
@@ -98,7 +100,28 @@ fn reduce_entries<'a, K: Key, C: Combiner, R: Reducer<C>>(
     Ok(made)
 }
 
-/// Reduces one partition of the keys of all hands: the cells of a key are merged, and a key whose merged cell is not over has a row.
+/// Reduces one partition of the keys of all hands, all of whose entries are put in order as they are read.
+pub(crate) fn reduce_read<L: Parted, R: Reducer<L::Fold>>(
+    alloc: Global,
+    mapped: &Mapped<L>,
+    part: u32,
+    parts: u32,
+) -> Result<Partition<L::Key>, Memory>
+    requires some { 1 ≤ parts }
+    requires part { part < parts }
+    ensures part { IfOk result (λ p. p.part ≡ part) }
+    ensures reduced { IfOk result
+        (λ p. IsReducedAt L.Key.cmp (λ k. joined_by L.Fold.merged (λ h. L.cell h.local k) mapped.now)
+        (L.part_of parts) L.Fold.over R.answer part p) }
+{
+    let mut entries = Vec::new(alloc);
+    read_hands(mapped, part, parts, &mut entries)?;
+    let made = reduce_entries::<L::Key, L::Fold, R>(alloc, part, 0, entries)?;
+    Ok(made)
+}
+
+/// Reduces one partition of the keys of all hands: the cells of a key are merged, and a key whose merged cell is not over has a row. There
+/// are 64 partitions at most. Where the hands have many entries, those of a key are joined before the keys are put in order.
 pub(crate) fn reduce_partition<L: Parted, R: Reducer<L::Fold>>(
     alloc: Global,
     mapped: &Mapped<L>,
@@ -113,7 +136,9 @@ pub(crate) fn reduce_partition<L: Parted, R: Reducer<L::Fold>>(
         (λ p. IsReducedAt L.Key.cmp (λ k. joined_by L.Fold.merged (λ h. L.cell h.local k) mapped.now)
         (L.part_of parts) L.Fold.over R.answer part p) }
 {
-    let entries = read_hands(alloc, mapped, part, parts)?;
-    let made = reduce_entries::<L::Key, L::Fold, R>(alloc, part, entries)?;
-    Ok(made)
+    let finer = mapped.finer(parts);
+    if finer == 1 {
+        return reduce_read::<L, R>(alloc, mapped, part, parts);
+    }
+    reduce_joined::<L, R>(alloc, mapped, part, parts, finer)
 }

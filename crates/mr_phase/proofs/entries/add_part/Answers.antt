@@ -1,6 +1,6 @@
 use Rattle.std.proofs.Common.{sym, ap, ◌∙◌, ◌∷◌, [], append-nil}
 use Rattle.std.proofs.lemmas.List.{map-append}
-use Rattle.mr_phase.specs.Folded.{seen_of}
+use Rattle.mr_container.specs.Entries.{seen_of}
 use Rattle.mr_phase.proofs.Gathering.{reads_on}
 use Rattle.mr_phase.proofs.entries.add_part.Goals as goal
 

@@ -1,5 +1,5 @@
 use Rattle.std.proofs.Common.{length}
-use Rattle.mr_phase.specs.Folded.{seen_of}
+use Rattle.mr_container.specs.Entries.{seen_of}
 use Rattle.mr_phase.proofs.Gathering.{Reading}
 use Rattle.mr_phase.proofs.entries.add_part.Given as goal
 

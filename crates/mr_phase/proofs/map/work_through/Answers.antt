@@ -1,5 +1,7 @@
-use Rattle.std.proofs.Common.{◌∙◌, subst, []}
+use Rattle.std.proofs.Common.{◌∙◌, subst, flat_map, []}
 use Rattle.std.proofs.lemmas.List.{flat_map_more}
+use Rattle.mr_phase.specs.Held.{HoldsFor}
+use Rattle.mr_phase.specs.Partition.{itself}
 use Rattle.mr_phase.proofs.Taken.{same_tasks, fewer_left}
 use Rattle.mr_phase.proofs.map.work_through.Goals as goal
 
@@ -20,7 +22,8 @@ loop-alloc-preserved g c =
       c.in-Some.ensures.same.1 ∙ inv.1,
       rw (c.push.ensures.items, c.room.ensures.items) (same_tasks old _ _ c.in-Some.task inv.2 some.1),
       rw (c.push.ensures.items, c.room.ensures.items)
-          (subst (g.L.Local.stands c.map.new.out) (flat_map_more emits [] old c.in-Some.task) (c.in-Ok.ensures.ok _ inv.3)),
+          (subst (HoldsFor c.args.spills g.L.Local.stands emits c.map.new.self) (flat_map_more itself [] old c.in-Some.task)
+          (c.in-Ok.ensures.ok (flat_map itself old) inv.3)),
       inv.4,
       g.met.L.Local.origin_trans _ _ _ inv.5 c.in-Ok.ensures.origin,
     )

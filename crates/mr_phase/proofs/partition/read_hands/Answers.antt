@@ -1,7 +1,7 @@
 use Rattle.std.proofs.Common.{◌==◌, if◌then◌else◌, None, ap, ◌∙◌}
 use Rattle.std.proofs.lemmas.List.{take_all}
 use Rattle.mr_defs.specs.Commutative.{joined_by}
-use Rattle.mr_phase.specs.Folded.{seen_of}
+use Rattle.mr_container.specs.Entries.{seen_of}
 use Rattle.mr_phase.proofs.Gathering.{gathered_more}
 use Rattle.mr_phase.proofs.partition.read_hands.Goals as goal
 

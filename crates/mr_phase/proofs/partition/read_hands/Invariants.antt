@@ -1,5 +1,5 @@
 use Rattle.std.proofs.Common.{take}
-use Rattle.mr_phase.specs.Folded.{seen_of}
+use Rattle.mr_container.specs.Entries.{seen_of}
 use Rattle.mr_phase.proofs.Gathering.{Gathered}
 use Rattle.mr_phase.proofs.partition.read_hands.Given as goal
 

@@ -1,11 +1,37 @@
-use Rattle.std.proofs.Common.{◌∙◌, ap, subst, sym}
+use Rattle.std.proofs.Common.{◌∙◌, [], None, refl, ap, subst, sym}
 use Rattle.std.proofs.lemmas.Option.{MatchOption-at_none, MatchOption-at_some}
 use Rattle.mr_defs.proofs.Lesser.{lesser_commutative}
-use Rattle.mr_phase.proofs.Folding.{IsFolding, folding_last, folding_other, folding_same}
+use Rattle.mr_phase.specs.declared.partition.Partition.{Partition}
+use Rattle.mr_phase.proofs.Folding.{IsFolding, folded_none, folding_first, folding_last, folding_other, folding_same}
 use Rattle.mr_phase.proofs.partition.reduce_entries.Goals as goal
 
-pub loop-cell-preserved-in-Continue-branch-7 : goal.loop-cell-preserved-in-Continue-branch-7
-loop-cell-preserved-in-Continue-branch-7 g c =
+pub loop-cell-init : goal.loop-cell-init
+loop-cell-init g c =
+    let fold = g.C.Combiner in
+    let taken = c.in_ok-first.ensures in
+    let first = c.in-Some in
+    let made : Partition g.row.K.Denot = record { part = c.args.part; rows = c.from_entries.result; over = None } in
+    record {
+      ahead = taken.ahead;
+      all = ap (λ v. v.items) taken.all ∙ c.in_ok-ahead.ensures.all;
+      part = refl;
+      folding = subst (λ cell. IsFolding g.K.Ord.cmp fold.merged fold.over g.R.Reducer.answer c.take.new.self first.first.now cell made)
+          (sym c.in_ok-cell.ensures.ok)
+          (folding_first g.K.Ord.cmp fold.merged fold.over g.R.Reducer.answer c.take.new.self (first.first, first.one) made
+          (c.from_entries.ensures ∙ c.in_ok-with_capacity.ensures.items) refl
+          (MatchOption-at_some _ _ _ first.is (taken.taken [] c.in_ok-ahead.ensures.taken)));
+    }
+
+pub returns-in_default-clause-folds : goal.returns-in_default-clause-folds
+returns-in_default-clause-folds g c =
+    let fold = g.C.Combiner in
+    folded_none g.K.Ord.cmp fold.merged fold.over g.R.Reducer.answer c.args.entries.items c.in_ok-ahead.ahead.entries.items
+    (record { part = c.args.part; rows = c.from_entries.result; over = None })
+    (c.from_entries.ensures ∙ c.in_ok-with_capacity.ensures.items) refl c.in_ok-ahead.ensures.all
+    (MatchOption-at_none _ _ c.in_default.is (c.in_ok-first.ensures.taken [] c.in_ok-ahead.ensures.taken))
+
+pub loop-cell-preserved-in_ok-merge : goal.loop-cell-preserved-in_ok-merge
+loop-cell-preserved-in_ok-merge g c =
     let fold = g.C.Combiner in
     let so_far = c.loop-cell.invariant in
     let taken = c.in_ok-lead.ensures in
