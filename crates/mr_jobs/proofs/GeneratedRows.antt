@@ -1,5 +1,5 @@
 -- The count of the words of a generated text.
-use Rattle.std.proofs.Common.{◌≡◌, ℕ, List, [], ◌∷◌, false, length, subst, sym}
+use Rattle.std.proofs.Common.{◌≡◌, ℕ, List, [], ◌∷◌, Option, false, length, subst, sym}
 use Rattle.std.specs.Prelude.{IfOk}
 use Rattle.std.specs.declared.result.Result.{Result}
 use Rattle.mr_base.specs.declared.Stop.{Stop}
@@ -24,7 +24,7 @@ use Rattle.mr_jobs.proofs.Merging.{weaker}
 use Rattle.mr_jobs.proofs.Outputs.{lawful, only_one}
 use Rattle.mr_report.specs.Shown.{rounds_seen}
 
-module _ (j : SeenJob) (workers : ℕ) (result : Result Output (Stop Refusal)) where
+module _ (j : SeenJob) (workers : Option ℕ) (result : Result Output (Stop Refusal)) where
   -- its bytes are those of the text
   pub summed_rows : (input text : List ℕ) → input ≡ text
       → IsOutputOf j (counted_words j (written.Summary (length input)) input) workers result

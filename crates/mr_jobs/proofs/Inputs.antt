@@ -44,7 +44,7 @@ module _ (bytes : List ℕ) where
       by None k = absurd (cc)
       by (Some g) k = cc
 
-module _ (j : SeenJob) (workers : ℕ) where
+module _ (j : SeenJob) (workers : Option ℕ) where
   abbrev Gives : Meaning → Result Output (Stop Refusal) → Type 0
   Gives meaning given = IsOutputOf j meaning workers given
 

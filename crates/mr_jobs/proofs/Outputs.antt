@@ -34,7 +34,7 @@ use Rattle.mr_report.specs.Shown.{rounds_seen}
 use Rattle.mr_split.specs.Pieces.{boundary_of}
 use Rattle.mr_split.specs.declared.boundary.Boundary.{Boundary}
 
-module _ (j : SeenJob) (workers : ℕ) (result : Result Output (Stop Refusal)) where
+module _ (j : SeenJob) (workers : Option ℕ) (result : Result Output (Stop Refusal)) where
   -- a job means what its kind does
   pub of_kind : (inputs : List (List ℕ)) (k : JobKind) → j.job ≡ k → IsOutputOf j (meaning_of_kind j inputs k) workers result
       → IsJobOutput j inputs workers result

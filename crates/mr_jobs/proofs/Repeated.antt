@@ -78,7 +78,7 @@ module _ {K V S : Type 0} (R : K → K → Ordering) (inside : K → Bool) (shar
         by (Ok rows) e = absurd (cc)
         by (Err f) e = cc
 
-  module _ (workers tasks : ℕ) (emits : S → ℕ → List (Emission K V)) (most : ℕ) (first : S) where
+  module _ (workers : Option ℕ) (tasks : ℕ) (emits : S → ℕ → List (Emission K V)) (most : ℕ) (first : S) where
     abbrev AreLawful : List S → List (List Work) → Type 0
     AreLawful = AreLawfulRounds R inside workers tasks emits
 

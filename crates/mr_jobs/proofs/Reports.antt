@@ -1,6 +1,6 @@
 -- What the workers did over the stretches of some items makes the only round of an output.
 use Rattle.std.proofs.Common.{◌≡◌, ℕ, Bool, List, Ok, Err, length, sym, subst}
-use Rattle.std.specs.Prelude.{IfOk}
+use Rattle.std.specs.Prelude.{IfOk, Option}
 use Rattle.std.specs.declared.result.Result.{Result}
 use Rattle.std.specs.declared.cmp.Ordering.{Ordering}
 use Rattle.mr_defs.specs.Emission.{Emission}
@@ -11,8 +11,8 @@ use Rattle.mr_jobs.specs.declared.output.Output.{Output}
 use Rattle.mr_report.specs.Shown.{rounds_seen, workers_of}
 
 -- the only round of an output, whose tasks are the stretches of some items
-pub only_shares : {K V E F : Type 0} (R : K → K → Ordering) (inside : K → Bool) (workers tasks : ℕ) (own emits : ℕ → List (Emission K V))
-    (items : List ℕ) (stretches : List Stretch) (round : Result (Round K) E) (result : Result Output F)
+pub only_shares : {K V E F : Type 0} (R : K → K → Ordering) (inside : K → Bool) (workers : Option ℕ) (tasks : ℕ)
+    (own emits : ℕ → List (Emission K V)) (items : List ℕ) (stretches : List Stretch) (round : Result (Round K) E) (result : Result Output F)
     → IfOk result (λ o. HasShares round o.rounds.items) → IfOk round
     (λ r. IsLawfulRound R inside workers tasks own (workers_of r.shares.items)) → tasks ≡ length stretches
     → ((t : ℕ) → own t ≡ task_at emits items stretches t)

@@ -1,6 +1,7 @@
 -- What each of several workers did.
-use Rattle.std.proofs.Common.{◌≡◌, Bool, ℕ, ◌+◌, length, List, [], ◌∷◌, ◌++◌, map, flat_map, take, refl, sym, ap, subst, ◌∙◌}
-use Rattle.std.specs.Prelude.{All, Some, slice_get}
+use Rattle.std.proofs.Common.{◌≡◌, Bool, true, false, true≢false, ℕ, ◌+◌, length, List, [], ◌∷◌, ◌++◌, map, flat_map, take, refl, sym, ap}
+use Rattle.std.proofs.Common.{subst, ◌∙◌, if◌then◌else◌}
+use Rattle.std.specs.Prelude.{All, None, Some, slice_get}
 use Rattle.std.specs.List.{range_with_len}
 use Rattle.std.specs.List.Sorted.{IsPermutation}
 use Rattle.std.specs.declared.cmp.Ordering.{Ordering}
@@ -10,7 +11,7 @@ use Rattle.std.proofs.lemmas.Option.{get_or_from_slice_get, slice_get_within}
 use Rattle.mr_base.proofs.Passes.{length-push}
 use Rattle.mr_defs.specs.Emission.{Emission}
 use Rattle.mr_items.specs.Report.{Work}
-use Rattle.mr_jobs.specs.Shares.{AreShares, IsLawfulRound}
+use Rattle.mr_jobs.specs.Shares.{AreShares, HaveTaken, IsLawfulRound}
 
 -- one more, of which as much is seen as of the next of a list
 pub one_more : {A B W : Type 0} (f : A → W) (g : B → W) (done more : List A) (x : A) (ys : List B) (i : ℕ) (y : B) → slice_get ys i ≡ Some y
@@ -32,16 +33,23 @@ module _ {B : Type 0} (tasks : B → List ℕ) (cells : B → ℕ) where
   flat_seen [] = refl
   flat_seen (y ∷ ys) = ap (λ l. tasks y ++ l) (flat_seen ys)
 
-  -- what the workers have makes a lawful round
+  -- what the workers have, who took the tasks
   pub lawful : {K V : Type 0} (R : K → K → Ordering) (inside : K → Bool) (emits : ℕ → List (Emission K V)) (workers n : ℕ) (ys : List B)
       (works : List Work) → works ≡ map (λ y. (tasks y, cells y)) ys → length ys ≡ workers
       → IsPermutation (range_with_len 0 n) (flat_map tasks ys) → AreShares R inside emits works
-      → IsLawfulRound R inside workers n emits works
+      → HaveTaken R inside workers n emits works
   lawful R inside emits workers n ys works seen count once shares = record {
     count = ap length seen ∙ length-map ys (λ y. (tasks y, cells y)) ∙ count;
     once = subst (IsPermutation (range_with_len 0 n)) (sym (ap (flat_map (λ (w : Work). w.0)) seen ∙ flat_seen ys)) once;
     cells = shares;
   }
+
+module _ {K V : Type 0} (R : K → K → Ordering) (inside : K → Bool) (emits : ℕ → List (Emission K V)) (count n : ℕ) (works : List Work) where
+  -- it is told where a report is asked for
+  pub told : (asked : Bool) → asked ≡ true → HaveTaken R inside count n emits works
+      → IsLawfulRound R inside (if asked then Some count else None) n emits works
+  told true is taken = taken
+  told false is taken = absurd (true≢false (sym is))
 
 -- what holds of each of a list holds when one more is put last
 pub each_pushed : {X : Type 0} (xs ys : List X) (x : X) (P : X → Type 0) → ys ≡ xs ++ x ∷ [] → All P xs → P x → All P ys

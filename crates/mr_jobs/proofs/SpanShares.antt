@@ -16,8 +16,8 @@ use Rattle.mr_jobs.specs.Shares.{IsLawfulRound, task_at}
 use Rattle.mr_jobs.specs.declared.phases.Round.{Round}
 use Rattle.mr_report.specs.Shown.{workers_of}
 
-over_stretches : {K V E : Type 0} (R : K → K → Ordering) (inside : K → Bool) (workers tasks : ℕ) (own emits : ℕ → List (Emission K V))
-    (items : List ℕ) (stretches cut : List Stretch) (round : Result (Round K) E)
+over_stretches : {K V E : Type 0} (R : K → K → Ordering) (inside : K → Bool) (workers : Option ℕ) (tasks : ℕ)
+    (own emits : ℕ → List (Emission K V)) (items : List ℕ) (stretches cut : List Stretch) (round : Result (Round K) E)
     → IfOk round (λ r. IsLawfulRound R inside workers tasks own (workers_of r.shares.items)) → tasks ≡ length stretches
     → ((t : ℕ) → own t ≡ task_at emits items stretches t) → stretches ≡ cut
     → IfOk round (λ r. IsLawfulRound R inside workers (length cut) (task_at emits items cut) (workers_of r.shares.items))
@@ -28,8 +28,8 @@ over_stretches R inside workers tasks own emits items stretches cut (Ok r) lawfu
 over_stretches R inside workers tasks own emits items stretches cut (Err e) lawful count each same = tt
 
 -- a round whose tasks are spans of so many items, which together emit these emissions
-pub over_spans : {V : Type 0} (inside : ℕ → Bool) (shared alike : Bool) (folded : List V → Option Answer) (workers tasks chunk count : ℕ)
-    (own emits : ℕ → List (Emission ℕ V)) (spans : List Stretch) (round : Result (Round ℕ) (Stop (Fault ℕ)))
+pub over_spans : {V : Type 0} (inside : ℕ → Bool) (shared alike : Bool) (folded : List V → Option Answer) (workers : Option ℕ)
+    (tasks chunk count : ℕ) (own emits : ℕ → List (Emission ℕ V)) (spans : List Stretch) (round : Result (Round ℕ) (Stop (Fault ℕ)))
     → IsRoundOfTasks nat_cmp inside shared folded workers tasks own round → shared ≡ alike
     → flat_map own (range_with_len 0 tasks) ≡ flat_map emits (range_with_len 0 count) → tasks ≡ length spans
     → ((t : ℕ) → own t ≡ task_at emits (range_with_len 0 count) spans t) → spans ≡ spans_of chunk count

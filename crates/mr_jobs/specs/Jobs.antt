@@ -1,5 +1,5 @@
 -- What each job means on the bytes of its inputs. A new job is a line of `meaning_of_kind`.
-use Rattle.std.specs.Prelude.{ℕ, ℤ, ◌*◌, List, [], decimal, Ok, Err, length, slice_index_or}
+use Rattle.std.specs.Prelude.{ℕ, ℤ, ◌*◌, List, [], decimal, Option, Ok, Err, length, slice_index_or}
 use Rattle.std.specs.declared.result.Result.{Result}
 use Rattle.mr_base.specs.declared.status.Status.TheVariants as status
 use Rattle.mr_capacity.specs.Folds.{folded}
@@ -103,6 +103,6 @@ module _ (j : SeenJob) where
     abbrev pub job_ending : Ending
     job_ending = ending_of j job_meaning
 
-    -- the rounds are those of the job, by so many workers
-    abbrev pub IsLawfulReport : ℕ → List (List Work) → Type 0
+    -- the rounds are those of the job, and so many workers are told of, or none
+    abbrev pub IsLawfulReport : Option ℕ → List (List Work) → Type 0
     IsLawfulReport workers rounds = IsLawfulFor j job_meaning workers rounds

@@ -1,5 +1,6 @@
 pub mod Ending
 pub mod Meets
+pub mod Reported
 pub mod Shares
 pub mod RoundOf
 pub mod Meaning

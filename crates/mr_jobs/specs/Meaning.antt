@@ -157,8 +157,8 @@ module _ (j : SeenJob) where
   ending_of (rounds m) = ended_by m.shown (rounds_of m.order m.inside m.shared m.fold (all_emitted m) m.next (most_of m.most) m.first)
   ending_of (refusal r) = Err r
 
-  -- these are what so many workers did in the rounds of a job that ended with its text
-  abbrev pub IsLawfulFor : Meaning → ℕ → List (List Work) → Type 0
+  -- this is told of the rounds of a job that ended with its text: what so many workers did in them, or nothing
+  abbrev pub IsLawfulFor : Meaning → Option ℕ → List (List Work) → Type 0
   IsLawfulFor (rounds m) workers works = AreLawfulRounds m.order m.inside workers (length m.tasks)
       (λ s. task_at (m.emits s) m.items m.tasks)
       (states_of m.order m.inside m.shared m.fold (all_emitted m) m.next (most_of m.most) m.first) works

@@ -1,5 +1,5 @@
 -- What a job gives.
-use Rattle.std.specs.Prelude.{ℕ, List, IfOk}
+use Rattle.std.specs.Prelude.{ℕ, List, Option, IfOk}
 use Rattle.std.specs.declared.cmp.Ordering.{Ordering}
 use Rattle.std.specs.declared.result.Result.{Result}
 use Rattle.mr_base.specs.declared.Stop.{Stop}
@@ -24,12 +24,12 @@ pub record IsWritten {K : Type 0} (R : K → K → Ordering) (shown : K → List
   pub of_inputs : IsOfInputs given
   pub shares : IfOk given (λ o. HasShares round o.rounds.items)
 
--- how a job of this meaning ends, beside what so many workers did in its rounds
-pub record IsOutputOf (j : SeenJob) (meaning : Meaning) (workers : ℕ) (given : Result Output (Stop Refusal)) : Type 0 where
+-- how a job of this meaning ends, beside what is told of so many workers, or of none
+pub record IsOutputOf (j : SeenJob) (meaning : Meaning) (workers : Option ℕ) (given : Result Output (Stop Refusal)) : Type 0 where
   pub ending : MeetsSeen (λ o. o.text) (ending_of j meaning) given
   pub of_inputs : IsOfInputs given
   pub shares : IfOk given (λ o. IsLawfulFor j meaning workers (rounds_seen o.rounds.items))
 
 -- of a job on its inputs
-abbrev pub IsJobOutput : SeenJob → List (List ℕ) → ℕ → Result Output (Stop Refusal) → Type 0
+abbrev pub IsJobOutput : SeenJob → List (List ℕ) → Option ℕ → Result Output (Stop Refusal) → Type 0
 IsJobOutput j inputs = IsOutputOf j (job_meaning j inputs)

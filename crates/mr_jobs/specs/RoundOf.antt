@@ -15,23 +15,23 @@ use Rattle.mr_jobs.specs.declared.phases.Round.{Round}
 use Rattle.mr_merge.specs.Merged.{CanMerge}
 use Rattle.mr_report.specs.Shown.{workers_of}
 
--- lists that can be merged, whose merged rows are those of what was emitted, or its first fault; and what so many workers did, who took
--- each of so many tasks once
+-- lists that can be merged, whose merged rows are those of what was emitted, or its first fault; and what is told of so many workers,
+-- who took each of so many tasks once, or of none
 pub record IsRoundOf {K V : Type 0} (R : K → K → Ordering) (inside : K → Bool) (shared : Bool) (folded : List V → Option Answer)
-    (workers tasks : ℕ) (emits : ℕ → List (Emission K V)) (emissions : List (Emission K V))
+    (workers : Option ℕ) (tasks : ℕ) (emits : ℕ → List (Emission K V)) (emissions : List (Emission K V))
     (given : Result (Round K) (Stop (Fault K))) : Type 0 where
   pub merge : IfOk given (λ r. CanMerge R r.lists.items)
   pub rows : MeetsRows R (round_of R inside shared folded emissions) given
   pub shares : IfOk given (λ r. IsLawfulRound R inside workers tasks emits (workers_of r.shares.items))
 
 -- the round of what all tasks emit
-abbrev pub IsRoundOfTasks : {K V : Type 0} → (K → K → Ordering) → (K → Bool) → Bool → (List V → Option Answer) → ℕ → ℕ
+abbrev pub IsRoundOfTasks : {K V : Type 0} → (K → K → Ordering) → (K → Bool) → Bool → (List V → Option Answer) → Option ℕ → ℕ
     → (ℕ → List (Emission K V)) → Result (Round K) (Stop (Fault K)) → Type 0
 IsRoundOfTasks R inside shared folded workers tasks emits =
     IsRoundOf R inside shared folded workers tasks emits (flat_map emits (range_with_len 0 tasks))
 
 -- the round of what so many items emit under number keys, in spans
-abbrev pub IsRoundOfSpans : {V : Type 0} → (ℕ → Bool) → Bool → (List V → Option Answer) → ℕ → ℕ → ℕ → (ℕ → List (Emission ℕ V))
+abbrev pub IsRoundOfSpans : {V : Type 0} → (ℕ → Bool) → Bool → (List V → Option Answer) → Option ℕ → ℕ → ℕ → (ℕ → List (Emission ℕ V))
     → Result (Round ℕ) (Stop (Fault ℕ)) → Type 0
 IsRoundOfSpans inside shared folded workers chunk count emits =
     IsRoundOf nat_cmp inside shared folded workers (length (spans_of chunk count))

@@ -9,6 +9,7 @@ ghost use Rattle.mr_items.specs.Keys.{all_inside};
 ghost use Rattle.mr_jobfile.specs.Seen.{seen};
 ghost use Rattle.mr_jobs.specs.Meaning.{inside_of, is_shared};
 ghost use Rattle.mr_jobs.specs.Outputs.{IsJobOutput};
+ghost use Rattle.mr_jobs.specs.Reported.{reported};
 ghost use Rattle.mr_jobs.specs.RoundOf.{IsRoundOfTasks};
 ghost use Rattle.mr_split.specs.declared.boundary.Boundary.{Boundary};
 
@@ -42,7 +43,7 @@ where
     requires keys { job.now.keys ≡ keys.Bytes }
     requires tasks { M.task_count mapper.now ≤ most_tasks }
     ensures { IsRoundOfTasks M.Key.cmp all_inside false (folded job.now.combiner job.now.reducer)
-        workers.now.count (M.task_count mapper.now) (M.task_emissions mapper.now) result }
+        (reported workers.now) (M.task_count mapper.now) (M.task_emissions mapper.now) result }
 {
     match job.combiner {
         CombinerKind::Buffer => {
@@ -69,7 +70,7 @@ fn number_rows<T: Threads + Sync, G: Gate + Sync, M: Mapper<Key = NumKey, Value 
     requires tasks { M.task_count mapper.now ≤ most_tasks }
     ensures { IsRoundOfTasks nat_cmp (inside_of job.now.container job.now.capacity) (is_shared job.now.container)
         (folded job.now.combiner job.now.reducer)
-        workers.now.count (M.task_count mapper.now) (M.task_emissions mapper.now) result }
+        (reported workers.now) (M.task_count mapper.now) (M.task_emissions mapper.now) result }
 {
     match job.combiner {
         CombinerKind::Once => once_round(workers, job, mapper),
@@ -95,7 +96,7 @@ pub(crate) fn fold_lines<T: Threads + Sync, G: Gate + Sync>(
     requires kind { job.now.job ≡ kind.FoldLines }
     requires count { length inputs.now ≡ 1 }
     requires short { All (λ bytes. length bytes ≤ input_limit) inputs.now }
-    ensures { IsJobOutput (seen job.now) inputs.now workers.now.count result }
+    ensures { IsJobOutput (seen job.now) inputs.now (reported workers.now) result }
 {
     let input = first_input(inputs);
     let pieces = pieces(workers.alloc, input, job.chunk, Boundary::Line)?;

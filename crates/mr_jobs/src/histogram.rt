@@ -9,6 +9,7 @@ ghost use Rattle.mr_jobfile.specs.Seen.{seen};
 ghost use Rattle.mr_jobs.specs.Jobs as meaning;
 ghost use Rattle.mr_jobs.specs.Meaning.{inside_of, is_shared};
 ghost use Rattle.mr_jobs.specs.Outputs.{IsJobOutput, IsOutputOf};
+ghost use Rattle.mr_jobs.specs.Reported.{reported};
 ghost use Rattle.mr_jobs.specs.RoundOf.{IsRoundOfTasks};
 
 use crate::input::refused_bitmap;
@@ -38,7 +39,7 @@ fn counted<T: Threads + Sync, G: Gate + Sync, M: Mapper<Key = NumKey, Value = i6
     requires tasks { M.task_count mapper.now ≤ most_tasks }
     ensures { IsRoundOfTasks nat_cmp (inside_of job.now.container job.now.capacity) (is_shared job.now.container)
         (folded job.now.combiner job.now.reducer)
-        workers.now.count (M.task_count mapper.now) (M.task_emissions mapper.now) result }
+        (reported workers.now) (M.task_count mapper.now) (M.task_emissions mapper.now) result }
 {
     at_combiner!(job.combiner, { Sum, Count, One }, own_round[T, G, M](workers, job, mapper))
 }
@@ -53,7 +54,7 @@ fn pixels<T: Threads + Sync, G: Gate + Sync>(
     requires kind { job.now.job ≡ kind.Histogram }
     requires bitmap { bitmap_of input.now ≡ Ok bitmap }
     requires few { bitmap.rows ≤ input_limit }
-    ensures { IsOutputOf (seen job.now) (meaning.pixels (seen job.now) input.now) workers.now.count result }
+    ensures { IsOutputOf (seen job.now) (meaning.pixels (seen job.now) input.now) (reported workers.now) result }
 {
     let mapper = Histogram::new(input, bitmap, spans(bitmap.rows as u64, job.chunk));
     rows_output(workers, counted(workers, job, &mapper))
@@ -68,7 +69,7 @@ pub(crate) fn histogram<T: Threads + Sync, G: Gate + Sync>(
     requires kind { job.now.job ≡ kind.Histogram }
     requires count { length inputs.now ≡ 1 }
     requires short { All (λ bytes. length bytes ≤ input_limit) inputs.now }
-    ensures { IsJobOutput (seen job.now) inputs.now workers.now.count result }
+    ensures { IsJobOutput (seen job.now) inputs.now (reported workers.now) result }
 {
     let input = first_input(inputs);
     match read_bitmap(input) {

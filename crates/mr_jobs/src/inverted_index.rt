@@ -6,6 +6,7 @@ ghost use Rattle.mr_defs.specs.Tasks.{most_tasks};
 ghost use Rattle.mr_items.specs.Keys.{all_inside};
 ghost use Rattle.mr_jobfile.specs.Seen.{seen};
 ghost use Rattle.mr_jobs.specs.Outputs.{IsJobOutput};
+ghost use Rattle.mr_jobs.specs.Reported.{reported};
 ghost use Rattle.mr_jobs.specs.RoundOf.{IsRoundOfTasks};
 ghost use Rattle.mr_split.specs.declared.boundary.Boundary.{Boundary};
 
@@ -35,7 +36,7 @@ where
     requires kind { job.now.job ≡ kind.InvertedIndex }
     requires tasks { M.task_count mapper.now ≤ most_tasks }
     ensures { IsRoundOfTasks M.Key.cmp all_inside false (folded job.now.combiner job.now.reducer)
-        workers.now.count (M.task_count mapper.now) (M.task_emissions mapper.now) result }
+        (reported workers.now) (M.task_count mapper.now) (M.task_emissions mapper.now) result }
 {
     match job.combiner {
         CombinerKind::Buffer => {
@@ -56,7 +57,7 @@ pub(crate) fn inverted_index<T: Threads + Sync, G: Gate + Sync>(
     requires kind { job.now.job ≡ kind.InvertedIndex }
     requires count { length inputs.now ≡ 1 }
     requires short { All (λ bytes. length bytes ≤ input_limit) inputs.now }
-    ensures { IsJobOutput (seen job.now) inputs.now workers.now.count result }
+    ensures { IsJobOutput (seen job.now) inputs.now (reported workers.now) result }
 {
     let input = first_input(inputs);
     let pieces = pieces(workers.alloc, input, job.chunk, Boundary::Line)?;

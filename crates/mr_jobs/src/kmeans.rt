@@ -8,6 +8,7 @@ ghost use Rattle.mr_jobfile.specs.Seen.{seen};
 ghost use Rattle.mr_jobs.specs.Meaning.{inside_of, is_shared};
 ghost use Rattle.mr_jobs.specs.Jobs as meaning;
 ghost use Rattle.mr_jobs.specs.Outputs.{IsJobOutput, IsOutputOf};
+ghost use Rattle.mr_jobs.specs.Reported.{reported};
 ghost use Rattle.mr_jobs.specs.RoundOf.{IsRoundOfSpans};
 ghost use Rattle.mr_numeric.specs.Grids.{IsEven};
 ghost use Rattle.mr_numeric.specs.Sums.{AreMeans};
@@ -64,7 +65,7 @@ fn round_from<T: Threads + Sync, G: Gate + Sync>(
     requires few { length grid.now ≤ input_limit }
     requires fit { AreMeans (columns_of grid.now) means.now }
     ensures { IsRoundOfSpans (inside_of job.now.container job.now.capacity) false vecsum_folded
-        workers.now.count job.now.chunk (length grid.now) (kmeans_emits means.now grid.now) result }
+        (reported workers.now) job.now.chunk (length grid.now) (kmeans_emits means.now grid.now) result }
 {
     let mapper = KMeans::new(grid, means, spans(grid.rows(), job.chunk));
     number_round::<T, G, KMeans, VecSum, Plain>(workers, job, &mapper)
@@ -81,7 +82,7 @@ fn round_in<T: Threads + Sync, G: Gate + Sync>(
     requires few { length grid.now ≤ input_limit }
     requires fit { AreMeans (columns_of grid.now) moving.now.means }
     ensures { IsRoundOfSpans (inside_of job.now.container job.now.capacity) false vecsum_folded
-        workers.now.count job.now.chunk (length grid.now) (kmeans_emits moving.now.means grid.now) result }
+        (reported workers.now) job.now.chunk (length grid.now) (kmeans_emits moving.now.means grid.now) result }
 {
     round_from(workers, job, grid, &moving.means)
 }
@@ -127,7 +128,7 @@ fn moved<T: Threads + Sync, G: Gate + Sync>(
     requires kind { job.now.job ≡ kind.KMeans }
     requires even { IsEven grid.now }
     requires few { length grid.now ≤ input_limit }
-    ensures { IsOutputOf (seen job.now) (meaning.clusters (seen job.now) grid.now) workers.now.count result }
+    ensures { IsOutputOf (seen job.now) (meaning.clusters (seen job.now) grid.now) (reported workers.now) result }
 {
     if grid.rows() < u64::from(job.clusters) {
         return Err(Stop::Refused(refused_input(workers.alloc, 1, b"shape")?));
@@ -153,7 +154,7 @@ pub(crate) fn kmeans<T: Threads + Sync, G: Gate + Sync>(
     requires kind { job.now.job ≡ kind.KMeans }
     requires count { length inputs.now ≡ 1 }
     requires short { All (λ bytes. length bytes ≤ input_limit) inputs.now }
-    ensures { IsJobOutput (seen job.now) inputs.now workers.now.count result }
+    ensures { IsJobOutput (seen job.now) inputs.now (reported workers.now) result }
 {
     match grid_input(workers, inputs, 0) {
         Ok(grid) => moved(workers, job, &grid),

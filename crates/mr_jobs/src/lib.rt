@@ -2,8 +2,9 @@
 //!
 //! What a job means is a line of `specs/Jobs.antt`: rounds over items that are cut into tasks, or the refusal of an input. From it follow
 //! for all jobs alike what the job comes to (`job_ending`: the text of the last round's rows, or the first fault of the first round that
-//! has one), which knows no task, worker or partition, and what its workers may have done (`IsLawfulReport`). A job is a module that makes
-//! its mapper and names its types; what maps, reduces and refuses stands once, over the traits alone.
+//! has one), which knows no task, worker or partition, and what is told of its workers (`IsLawfulReport`): what each may have done, where a
+//! report is asked for, and else nothing. A job is a module that makes its mapper and names its types; what maps, reduces and refuses
+//! stands once, over the traits alone.
 //!
 //! Its promise: `run_job` gives the text of that ending, or its refusal with status and line. Want of memory alone is free.
 #![tactic(auto)]
@@ -15,6 +16,7 @@ ghost use Rattle.mr_jobs.specs.Jobs.{IsLawfulReport, inputs_wanted, job_ending};
 ghost use Rattle.mr_jobs.specs.Meets.{IsOfInputs, MeetsSeen};
 ghost use Rattle.mr_jobs.specs.Outputs.{IsJobOutput};
 ghost use Rattle.mr_jobs.specs.Printable.{IsPrintable};
+ghost use Rattle.mr_jobs.specs.Reported.{reported};
 ghost use Rattle.mr_report.specs.Shown.{rounds_seen};
 
 mod fold_lines;
@@ -72,7 +74,7 @@ fn output_of<T: Threads + Sync, G: Gate + Sync>(
 ) -> Result<Output, Stop<Refusal>>
     requires count { length inputs.now ≡ inputs_wanted job.now.job }
     requires short { All (λ bytes. length bytes ≤ input_limit) inputs.now }
-    ensures { IsJobOutput (seen job.now) inputs.now workers.now.count result }
+    ensures { IsJobOutput (seen job.now) inputs.now (reported workers.now) result }
 {
     match job.job {
         JobKind::WordCount => word_count(workers, job, inputs),
@@ -97,7 +99,7 @@ pub fn run_job<T: Threads + Sync, G: Gate + Sync>(
     requires short { All (λ bytes. length bytes ≤ input_limit) inputs.now }
     ensures ending { MeetsSeen (λ o. o.text) (job_ending (seen job.now) inputs.now) result }
     ensures of_inputs { IsOfInputs result }
-    ensures shares { IfOk result (λ o. IsLawfulReport (seen job.now) inputs.now workers.now.count (rounds_seen o.rounds.items)) }
+    ensures shares { IfOk result (λ o. IsLawfulReport (seen job.now) inputs.now (reported workers.now) (rounds_seen o.rounds.items)) }
     ensures printable { IfOk result IsPrintable }
 {
     output_of(workers, job, inputs)

@@ -13,6 +13,7 @@ ghost use Rattle.mr_jobs.specs.Meaning.{inside_of, is_shared};
 ghost use Rattle.mr_jobs.specs.Jobs as meaning;
 ghost use Rattle.mr_jobs.specs.Meets.{IsOfInputs, MeetsSeen, texted};
 ghost use Rattle.mr_jobs.specs.Outputs.{IsJobOutput, IsOutputOf};
+ghost use Rattle.mr_jobs.specs.Reported.{reported};
 ghost use Rattle.mr_jobs.specs.RoundOf.{IsRoundOfSpans};
 ghost use Rattle.mr_jobs.specs.Shares.{AreOnlyRound};
 ghost use Rattle.mr_report.specs.Shown.{rounds_seen};
@@ -44,7 +45,7 @@ fn sums<T: Threads + Sync, G: Gate + Sync>(
     requires shape { items.is_regression_shape grid.now ≡ true }
     requires few { length grid.now ≤ input_limit }
     ensures { IsRoundOfSpans (inside_of job.now.container job.now.capacity) (is_shared job.now.container) sum_folded
-        workers.now.count job.now.chunk (length grid.now) (items.linear_regression_emits grid.now) result }
+        (reported workers.now) job.now.chunk (length grid.now) (items.linear_regression_emits grid.now) result }
 {
     let mapper = Regression::new(grid, spans(grid.rows(), job.chunk));
     number_round::<T, G, Regression, Sum, Plain>(workers, job, &mapper)
@@ -63,7 +64,7 @@ fn line_text<T: Threads + Sync, G: Gate + Sync>(
         (round_of nat_cmp (inside_of job.now.container job.now.capacity) (is_shared job.now.container) sum_folded
         (items.linear_regression_emissions grid.now)))) result }
     ensures of_inputs { IsOfInputs result }
-    ensures shares { IfOk result (λ o. AreOnlyRound nat_cmp (inside_of job.now.container job.now.capacity) workers.now.count
+    ensures shares { IfOk result (λ o. AreOnlyRound nat_cmp (inside_of job.now.container job.now.capacity) (reported workers.now)
         (items.linear_regression_emits grid.now) (range_with_len 0 (length grid.now)) (spans_of job.now.chunk (length grid.now))
         (rounds_seen o.rounds.items)) }
 {
@@ -87,7 +88,7 @@ fn line_through<T: Threads + Sync, G: Gate + Sync>(
 ) -> Result<Output, Stop<Refusal>>
     requires kind { job.now.job ≡ kind.LinearRegression }
     requires few { length grid.now ≤ input_limit }
-    ensures { IsOutputOf (seen job.now) (meaning.regression (seen job.now) grid.now) workers.now.count result }
+    ensures { IsOutputOf (seen job.now) (meaning.regression (seen job.now) grid.now) (reported workers.now) result }
 {
     let fits = grid.rows() == 0 || grid.columns() == 2;
     if !fits {
@@ -108,7 +109,7 @@ pub(crate) fn linear_regression<T: Threads + Sync, G: Gate + Sync>(
     requires kind { job.now.job ≡ kind.LinearRegression }
     requires count { length inputs.now ≡ 1 }
     requires short { All (λ bytes. length bytes ≤ input_limit) inputs.now }
-    ensures { IsJobOutput (seen job.now) inputs.now workers.now.count result }
+    ensures { IsJobOutput (seen job.now) inputs.now (reported workers.now) result }
 {
     match grid_input(workers, inputs, 0) {
         Ok(grid) => line_through(workers, job, &grid),

@@ -10,6 +10,7 @@ ghost use Rattle.mr_jobfile.specs.Seen.{seen};
 ghost use Rattle.mr_jobs.specs.Meaning.{inside_of, is_shared};
 ghost use Rattle.mr_jobs.specs.Jobs as meaning;
 ghost use Rattle.mr_jobs.specs.Outputs.{IsJobOutput, IsOutputOf};
+ghost use Rattle.mr_jobs.specs.Reported.{reported};
 ghost use Rattle.mr_jobs.specs.RoundOf.{IsRoundOfTasks};
 
 use crate::input::{grid_input, refused_input};
@@ -52,7 +53,7 @@ fn product_rows<T: Threads + Sync, G: Gate + Sync, M: Mapper<Key = NumKey, Value
     requires tasks { M.task_count mapper.now ≤ most_tasks }
     ensures { IsRoundOfTasks nat_cmp (inside_of job.now.container job.now.capacity) (is_shared job.now.container)
         (folded job.now.combiner job.now.reducer)
-        workers.now.count (M.task_count mapper.now) (M.task_emissions mapper.now) result }
+        (reported workers.now) (M.task_count mapper.now) (M.task_emissions mapper.now) result }
 {
     match job.combiner {
         CombinerKind::Once => once_round(workers, job, mapper),
@@ -71,7 +72,7 @@ fn multiplied<T: Threads + Sync, G: Gate + Sync>(
     requires shape { is_product_shape left.now right.now ≡ true }
     requires few { length right.now ≤ input_limit }
     requires full { columns_of right.now ≡ 0 → length right.now ≡ 0 }
-    ensures { IsOutputOf (seen job.now) (meaning.elements (seen job.now) left.now right.now) workers.now.count result }
+    ensures { IsOutputOf (seen job.now) (meaning.elements (seen job.now) left.now right.now) (reported workers.now) result }
 {
     let turned = right.turned(workers.alloc)?;
     let spans = spans(elements(left, right), job.chunk);
@@ -98,7 +99,7 @@ fn product<T: Threads + Sync, G: Gate + Sync>(
     requires left { length left.now ≤ input_limit }
     requires right { length right.now ≤ input_limit }
     requires full { columns_of right.now ≡ 0 → length right.now ≡ 0 }
-    ensures { IsOutputOf (seen job.now) (meaning.product (seen job.now) left.now right.now) workers.now.count result }
+    ensures { IsOutputOf (seen job.now) (meaning.product (seen job.now) left.now right.now) (reported workers.now) result }
 {
     if !fit(left, right) {
         return Err(Stop::Refused(refused_input(workers.alloc, 2, b"shape")?));
@@ -115,7 +116,7 @@ pub(crate) fn matrix_product<T: Threads + Sync, G: Gate + Sync>(
     requires kind { job.now.job ≡ kind.MatrixProduct }
     requires count { length inputs.now ≡ 2 }
     requires short { All (λ bytes. length bytes ≤ input_limit) inputs.now }
-    ensures { IsJobOutput (seen job.now) inputs.now workers.now.count result }
+    ensures { IsJobOutput (seen job.now) inputs.now (reported workers.now) result }
 {
     let left = match grid_input(workers, inputs, 0) {
         Ok(left) => left,

@@ -23,7 +23,7 @@ use std::thread::Threads;
 pub struct Output {
     /// The bytes that are to be written.
     pub text: Text,
-    /// What each worker did, round by round.
+    /// What each worker did, round by round, where a report is asked for. Else the rounds stand there with no workers.
     pub rounds: Few<Few<Share>>,
 }
 

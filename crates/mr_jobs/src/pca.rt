@@ -9,6 +9,7 @@ ghost use Rattle.mr_jobs.specs.Meaning.{inside_of, is_shared};
 ghost use Rattle.mr_jobs.specs.Jobs as meaning;
 ghost use Rattle.mr_jobs.specs.Outputs.{IsJobOutput, IsOutputOf};
 ghost use Rattle.mr_jobs.specs.Passes.{IsPassOver};
+ghost use Rattle.mr_jobs.specs.Reported.{reported};
 ghost use Rattle.mr_jobs.specs.RoundOf.{IsRoundOfSpans};
 ghost use Rattle.mr_numeric.specs.Grids.{IsEven};
 
@@ -67,7 +68,7 @@ fn sums<T: Threads + Sync, G: Gate + Sync>(
     requires own { is_shared job.now.container ≡ false }
     requires few { length grid.now ≤ input_limit }
     ensures { IsRoundOfSpans (inside_of job.now.container job.now.capacity) false sum_folded
-        workers.now.count job.now.chunk (length grid.now) (column_emits grid.now) result }
+        (reported workers.now) job.now.chunk (length grid.now) (column_emits grid.now) result }
 {
     let mapper = ColumnSums::new(grid, spans(grid.rows(), job.chunk));
     number_round::<T, G, ColumnSums, Sum, Plain>(workers, job, &mapper)
@@ -86,7 +87,7 @@ fn products<T: Threads + Sync, G: Gate + Sync>(
     requires each { length means.now ≡ columns_of grid.now }
     requires small { All (λ z. nat_abs z ≤ greatest_element) means.now }
     ensures { IsRoundOfSpans (inside_of job.now.container job.now.capacity) false sum_folded
-        workers.now.count job.now.chunk (length grid.now) (spread_emits means.now grid.now) result }
+        (reported workers.now) job.now.chunk (length grid.now) (spread_emits means.now grid.now) result }
 {
     let mapper = Spread::new(grid, means, spans(grid.rows(), job.chunk));
     number_round::<T, G, Spread, Sum, Plain>(workers, job, &mapper)
@@ -104,7 +105,7 @@ fn pass_over<T: Threads + Sync, G: Gate + Sync>(
     requires narrow { columns_of grid.now ≤ 1024 }
     requires fits { IsPassOver grid.now pass.now }
     ensures { IsRoundOfSpans (inside_of job.now.container job.now.capacity) false sum_folded
-        workers.now.count job.now.chunk (length grid.now) (meaning.pca_emits grid.now pass.now) result }
+        (reported workers.now) job.now.chunk (length grid.now) (meaning.pca_emits grid.now pass.now) result }
 {
     match &pass.means {
         Some(means) => products(workers, job, grid, means),
@@ -153,7 +154,7 @@ fn passes<T: Threads + Sync, G: Gate + Sync>(
     requires even { IsEven grid.now }
     requires few { length grid.now ≤ input_limit }
     requires narrow { columns_of grid.now ≤ 1024 }
-    ensures { IsOutputOf (seen job.now) (meaning.passes (seen job.now) grid.now) workers.now.count result }
+    ensures { IsOutputOf (seen job.now) (meaning.passes (seen job.now) grid.now) (reported workers.now) result }
 {
     let first = Pass { means: None };
     let round = |pass: &Pass| -> Result<Round<NumKey>, Stop<Fault<NumKey>>>
@@ -177,7 +178,7 @@ pub(crate) fn pca<T: Threads + Sync, G: Gate + Sync>(
     requires kind { job.now.job ≡ kind.Pca }
     requires count { length inputs.now ≡ 1 }
     requires short { All (λ bytes. length bytes ≤ input_limit) inputs.now }
-    ensures { IsJobOutput (seen job.now) inputs.now workers.now.count result }
+    ensures { IsJobOutput (seen job.now) inputs.now (reported workers.now) result }
 {
     match grid_input(workers, inputs, 0) {
         Ok(grid) => passes(workers, job, &grid),

@@ -1,4 +1,4 @@
-ghost use Rattle.std.specs.Prelude.{◌≡◌, ◌≤◌, [], All, IfOk, List, ℕ, false, length, map, flat_map};
+ghost use Rattle.std.specs.Prelude.{◌≡◌, ◌≤◌, ◌⊎◌, [], All, IfOk, List, ℕ, false, length, map, flat_map, true};
 ghost use Rattle.std.specs.Cmp.{IsTotalOrder};
 ghost use Rattle.std.specs.FinMap.{IsAntisymmetric};
 ghost use Rattle.std.specs.List.{IsDistinct, range_with_len};
@@ -8,8 +8,9 @@ ghost use Rattle.mr_base.specs.Noting.{noted_of};
 ghost use Rattle.mr_defs.specs.Emission.{Emission};
 ghost use Rattle.mr_defs.specs.Partitions.{concatenated};
 ghost use Rattle.mr_defs.specs.Tasks.{most_tasks};
+ghost use Rattle.mr_jobs.specs.Reported.{reported};
 ghost use Rattle.mr_jobs.specs.RoundOf.{IsRoundOfTasks};
-ghost use Rattle.mr_jobs.specs.Shares.{AreShares};
+ghost use Rattle.mr_jobs.specs.Shares.{AreShares, IsLawfulRound};
 ghost use Rattle.mr_phase.specs.Spread.{IsSpreadOf};
 ghost use Rattle.mr_report.specs.Shown.{work_of, workers_of};
 
@@ -26,14 +27,16 @@ use mr_report::Share;
 use std::alloc::Global;
 use std::thread::Threads;
 
-/// What a round gives: its rows in lists, each of which ascends by key, and what each worker did.
+/// What a round gives: its rows in lists, each of which ascends by key, and what each worker did, where a report is asked for. Else there
+/// are no shares.
 #[derive(Drop)]
 pub(crate) struct Round<K> {
     pub(crate) lists: Few<Rows<K>>,
     pub(crate) shares: Few<Share>,
 }
 
-// Maps each task once, into the local of the worker that took it.
+// Maps each task once, into the local of the worker that took it. One of several workers may spill, and then has more hands than one; not
+// where a report is asked for, which tells of a worker as a whole.
 fn map_tasks<
     T: Threads + Sync,
     G: Gate + Sync,
@@ -50,12 +53,13 @@ where
     L::Value: Send,
     requires few { M.task_count mapper.now ≤ most_tasks }
     requires locals { (length locals.items ≡ workers.now.count) × All (λ local. L.stands local []) locals.items }
-    ensures count { IfOk result (λ hands. length hands ≡ workers.now.count) }
+    ensures count { (workers.now.reports ≡ true) ⊎ (workers.now.count ≡ 1) → IfOk result (λ hands. length hands ≡ workers.now.count) }
     ensures once { IfOk result (λ hands. IsPermutation (range_with_len 0 (M.task_count mapper.now)) (flat_map (λ h. h.tasks.items) hands)) }
     ensures stands { IfOk result (λ hands. All (λ h. L.stands h.local (flat_map (M.task_emissions mapper.now) h.tasks.items)) hands) }
 {
     let ranges = Ranges::even(workers.alloc, mapper.tasks(), workers.count())?;
     let (queues, passes) = AnyQueues::of(workers.alloc, queue, &ranges)?;
+    let spills = workers.count() > 1 && !workers.reports();
     map_phase(
         workers.rt,
         workers.alloc,
@@ -64,6 +68,7 @@ where
         locals,
         mapper,
         workers.gate,
+        spills,
     )
 }
 
@@ -87,7 +92,7 @@ where
     if workers.count() == 1 {
         return gather::<L, R>(workers.alloc, &mapped);
     }
-    mapped.arrange(workers.rt, workers.alloc, job.partitions);
+    mapped.arrange(workers.rt, workers.alloc, job.partitions, workers.count());
     let ranges = Ranges::even(workers.alloc, job.partitions, workers.count())?;
     let (queues, passes) = AnyQueues::of(workers.alloc, job.queue, &ranges)?;
     let reduced = reduce_phase::<T, AnyQueues, L, R>(
@@ -98,7 +103,7 @@ where
         job.partitions,
         &mapped,
     )?;
-    mapped.free(workers.rt, workers.alloc);
+    mapped.free(workers.rt, workers.alloc, workers.count());
     Ok(reduced)
 }
 
@@ -139,6 +144,24 @@ fn shares_of<L: Parted>(alloc: Global, mapped: &Mapped<L>) -> Result<Few<Share>,
     Ok(shares)
 }
 
+// What each worker did, where a report is asked for: its hand is the worker's whole work there.
+fn told_shares<T, G, L: Parted>(
+    workers: &Workers<T, G>,
+    mapped: &Mapped<L>,
+) -> Result<Few<Share>, Memory>
+    requires count { workers.now.reports ≡ true → length mapped.now ≡ workers.now.count }
+    ensures { IfOk result (λ shares. (tasks : ℕ) (emits : ℕ → List (Emission L.Key L.Value))
+        → IsPermutation (range_with_len 0 tasks) (flat_map (λ h. h.tasks.items) mapped.now)
+        → All (λ h. L.stands h.local (flat_map emits h.tasks.items)) mapped.now
+        → IsLawfulRound L.Key.cmp L.inside (reported workers.now) tasks emits (workers_of shares.items)) }
+{
+    if !workers.reports() {
+        return Few::with_room(workers.alloc, 0);
+    }
+    let shares = shares_of(workers.alloc, mapped)?;
+    Ok(shares)
+}
+
 // Carries what is known of the order of keys as clauses.
 fn keys_are_ordered<K: Key>()
     ensures total { IsTotalOrder K.cmp }
@@ -169,11 +192,11 @@ where
     requires few { M.task_count mapper.now ≤ most_tasks }
     requires locals { (length locals.items ≡ workers.now.count) × All (λ local. L.stands local []) locals.items }
     ensures { IsRoundOfTasks L.Key.cmp L.inside false R.folded
-        workers.now.count (M.task_count mapper.now) (M.task_emissions mapper.now) result }
+        (reported workers.now) (M.task_count mapper.now) (M.task_emissions mapper.now) result }
 {
     keys_are_ordered::<L::Key>();
     let mapped = map_tasks::<T, G, L, M>(workers, job.queue, mapper, locals)?;
-    let shares = shares_of(workers.alloc, &mapped)?;
+    let shares = told_shares(workers, &mapped)?;
     let Reduced { lists, faults } = reduce_cells::<T, G, L, R>(workers, job, mapped)?;
     match faults.first() {
         Some(fault) => Err(Stop::Refused(fault)),

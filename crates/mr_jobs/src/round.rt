@@ -5,6 +5,7 @@ ghost use Rattle.mr_defs.specs.Limits.{greatest_capacity};
 ghost use Rattle.mr_defs.specs.Tasks.{most_tasks};
 ghost use Rattle.mr_items.specs.Keys.{all_inside, below};
 ghost use Rattle.mr_jobs.specs.Meaning.{inside_of, is_shared};
+ghost use Rattle.mr_jobs.specs.Reported.{reported};
 ghost use Rattle.mr_jobs.specs.RoundOf.{IsRoundOfTasks};
 
 use crate::phases::{Round, run_round};
@@ -73,7 +74,7 @@ where
     C::Cell: Send + Sync,
     requires tasks { M.task_count mapper.now ≤ most_tasks }
     ensures { IsRoundOfTasks M.Key.cmp all_inside false R.folded
-        workers.now.count (M.task_count mapper.now) (M.task_emissions mapper.now) result }
+        (reported workers.now) (M.task_count mapper.now) (M.task_emissions mapper.now) result }
 {
     let tables = tables::<M::Key, C>(workers.alloc, workers.count())?;
     run_round::<T, G, HashLocal<M::Key, C, BUCKETS>, M, R>(workers, job, mapper, tables)
@@ -93,7 +94,7 @@ where
     requires tasks { M.task_count mapper.now ≤ most_tasks }
     requires fold { R.folded ≡ folded job.now.combiner job.now.reducer }
     ensures { IsRoundOfTasks M.Key.cmp all_inside false (folded job.now.combiner job.now.reducer)
-        workers.now.count (M.task_count mapper.now) (M.task_emissions mapper.now) result }
+        (reported workers.now) (M.task_count mapper.now) (M.task_emissions mapper.now) result }
 {
     hash_round::<T, G, M, C, R>(workers, job, mapper)
 }
@@ -137,7 +138,7 @@ where
     requires some { 1 ≤ size }
     requires few { size ≤ greatest_capacity }
     ensures { IsRoundOfTasks nat_cmp (below size) false R.folded
-        workers.now.count (M.task_count mapper.now) (M.task_emissions mapper.now) result }
+        (reported workers.now) (M.task_count mapper.now) (M.task_emissions mapper.now) result }
 {
     let arrays = arrays::<C, S>(workers.alloc, workers.count(), size)?;
     run_round::<T, G, ArrayLocal<C, S>, M, R>(workers, job, mapper, arrays)
@@ -156,7 +157,7 @@ where
     C::Cell: Send + Sync,
     requires tasks { M.task_count mapper.now ≤ most_tasks }
     ensures { IsRoundOfTasks nat_cmp (below job.now.capacity) false R.folded
-        workers.now.count (M.task_count mapper.now) (M.task_emissions mapper.now) result }
+        (reported workers.now) (M.task_count mapper.now) (M.task_emissions mapper.now) result }
 {
     in_array::<T, G, M, C, R, Brand>(workers, job, mapper, size_of(job))
 }
@@ -175,7 +176,7 @@ where
     requires tasks { M.task_count mapper.now ≤ most_tasks }
     requires own { is_shared job.now.container ≡ false }
     ensures { IsRoundOfTasks nat_cmp (inside_of job.now.container job.now.capacity) (is_shared job.now.container) R.folded
-        workers.now.count (M.task_count mapper.now) (M.task_emissions mapper.now) result }
+        (reported workers.now) (M.task_count mapper.now) (M.task_emissions mapper.now) result }
 {
     match job.container {
         ContainerKind::Hash => hash_round::<T, G, M, C, R>(workers, job, mapper),
@@ -199,7 +200,7 @@ where
     requires fold { R.folded ≡ folded job.now.combiner job.now.reducer }
     ensures { IsRoundOfTasks nat_cmp (inside_of job.now.container job.now.capacity) (is_shared job.now.container)
         (folded job.now.combiner job.now.reducer)
-        workers.now.count (M.task_count mapper.now) (M.task_emissions mapper.now) result }
+        (reported workers.now) (M.task_count mapper.now) (M.task_emissions mapper.now) result }
 {
     number_round::<T, G, M, C, R>(workers, job, mapper)
 }

@@ -8,6 +8,7 @@ ghost use Rattle.mr_defs.specs.Tasks.{spans_of};
 ghost use Rattle.mr_jobs.specs.Ending.{ended_by};
 ghost use Rattle.mr_jobs.specs.Meaning.{inside_of};
 ghost use Rattle.mr_jobs.specs.Meets.{IsOfInputs, MeetsSeen, texted};
+ghost use Rattle.mr_jobs.specs.Reported.{reported};
 ghost use Rattle.mr_jobs.specs.Sequels.{LeadsTo, next_of};
 ghost use Rattle.mr_jobs.specs.RoundOf.{IsRoundOfSpans};
 ghost use Rattle.mr_jobs.specs.Shares.{AreLawfulRounds, IsSpanRound, all_of, task_at};
@@ -78,10 +79,10 @@ fn one_round<T, G, R: Rounds, F: Fn(&R::State) -> Result<Round<NumKey>, Stop<Fau
     requires fits { R.fits rounds.now state.now }
     requires may { (s : Bor R.State) → R.fits rounds.now s.now → F.pre round.now s }
     requires gives { (s : Bor R.State) (r : _) → R.fits rounds.now s.now → F.post round.now s r
-        → IsRoundOfSpans (inside_of job.now.container job.now.capacity) false R.folded workers.now.count
+        → IsRoundOfSpans (inside_of job.now.container job.now.capacity) false R.folded (reported workers.now)
         job.now.chunk (R.count rounds.now) (R.emits rounds.now s.now) r }
     ensures { IsRoundOfSpans (inside_of job.now.container job.now.capacity) false R.folded
-        workers.now.count job.now.chunk (R.count rounds.now) (R.emits rounds.now state.now) result }
+        (reported workers.now) job.now.chunk (R.count rounds.now) (R.emits rounds.now state.now) result }
 {
     round(state)
 }
@@ -102,14 +103,14 @@ fn step<
     requires fits { R.fits rounds.now state.now }
     requires may { (s : Bor R.State) → R.fits rounds.now s.now → F.pre round.now s }
     requires gives { (s : Bor R.State) (r : _) → R.fits rounds.now s.now → F.post round.now s r
-        → IsRoundOfSpans (inside_of job.now.container job.now.capacity) false R.folded workers.now.count
+        → IsRoundOfSpans (inside_of job.now.container job.now.capacity) false R.folded (reported workers.now)
         job.now.chunk (R.count rounds.now) (R.emits rounds.now s.now) r }
     ensures ending { MeetsSeen (λ o. next_of o.0) (ended_by decimal (texted (R.next rounds.now state.now)
         (round_of nat_cmp (inside_of job.now.container job.now.capacity) false R.folded
         (all_of (R.emits rounds.now state.now) (R.count rounds.now))))) result }
     ensures fits { IfOk result (λ o. LeadsTo (R.fits rounds.now) o.0) }
     ensures of_inputs { IsOfInputs result }
-    ensures shares { IfOk result (λ o. IsSpanRound (inside_of job.now.container job.now.capacity) workers.now.count
+    ensures shares { IfOk result (λ o. IsSpanRound (inside_of job.now.container job.now.capacity) (reported workers.now)
         job.now.chunk (R.count rounds.now) (R.emits rounds.now state.now) (workers_of o.1.items)) }
 {
     match one_round(workers, job, rounds, round, state) {
@@ -143,13 +144,13 @@ pub(crate) fn run_rounds<
     requires fits { R.fits rounds.now first }
     requires may { (s : Bor R.State) → R.fits rounds.now s.now → F.pre round s }
     requires gives { (s : Bor R.State) (r : _) → R.fits rounds.now s.now → F.post round s r
-        → IsRoundOfSpans (inside_of job.now.container job.now.capacity) false R.folded workers.now.count
+        → IsRoundOfSpans (inside_of job.now.container job.now.capacity) false R.folded (reported workers.now)
         job.now.chunk (R.count rounds.now) (R.emits rounds.now s.now) r }
     ensures ending { MeetsSeen (λ o. o.text) (ended_by decimal
         (rounds_of nat_cmp (inside_of job.now.container job.now.capacity) false R.folded
         (λ s. all_of (R.emits rounds.now s) (R.count rounds.now)) (R.next rounds.now) most first)) result }
     ensures of_inputs { IsOfInputs result }
-    ensures shares { IfOk result (λ o. AreLawfulRounds nat_cmp (inside_of job.now.container job.now.capacity) workers.now.count
+    ensures shares { IfOk result (λ o. AreLawfulRounds nat_cmp (inside_of job.now.container job.now.capacity) (reported workers.now)
         (length (spans_of job.now.chunk (R.count rounds.now)))
         (λ s. task_at (R.emits rounds.now s) (range_with_len 0 (R.count rounds.now)) (spans_of job.now.chunk (R.count rounds.now)))
         (states_of nat_cmp (inside_of job.now.container job.now.capacity) false R.folded

@@ -1,4 +1,4 @@
-ghost use Rattle.std.specs.Prelude.{◌≡◌, ◌≤◌, None, All, IfOk, flat_map, length, map, true};
+ghost use Rattle.std.specs.Prelude.{◌≡◌, ◌≤◌, Bool, None, All, IfOk, List, ℕ, ℤ, flat_map, length, map, true};
 ghost use Rattle.std.specs.List.{range_with_len};
 ghost use Rattle.std.specs.List.Sorted.{IsPermutation};
 ghost use Rattle.std.specs.Ordering.{nat_cmp};
@@ -6,6 +6,7 @@ ghost use Rattle.mr_base.specs.Noting.{noted_of};
 ghost use Rattle.mr_capacity.specs.Folds.{folded};
 ghost use Rattle.mr_capacity.specs.declared.kinds.CombinerKind.TheVariants as combiner;
 ghost use Rattle.mr_capacity.specs.declared.kinds.ContainerKind.TheVariants as container;
+ghost use Rattle.mr_defs.specs.Emission.{Emission};
 ghost use Rattle.mr_defs.specs.Faulty.{common_faults_of};
 ghost use Rattle.mr_defs.specs.Folded.{once_folded};
 ghost use Rattle.mr_defs.specs.Limits.{greatest_capacity};
@@ -13,7 +14,9 @@ ghost use Rattle.mr_defs.specs.Rows.{cells_of, rows_of};
 ghost use Rattle.mr_defs.specs.Tasks.{most_tasks};
 ghost use Rattle.mr_items.specs.Keys.{below};
 ghost use Rattle.mr_jobs.specs.Meaning.{inside_of, is_shared};
+ghost use Rattle.mr_jobs.specs.Reported.{reported};
 ghost use Rattle.mr_jobs.specs.RoundOf.{IsRoundOfTasks};
+ghost use Rattle.mr_jobs.specs.Shares.{IsLawfulRound};
 ghost use Rattle.mr_report.specs.Shown.{workers_of};
 
 use crate::output::only;
@@ -79,6 +82,21 @@ fn shares_of(alloc: Global, hands: &Few<CommonHand>) -> Result<Few<Share>, Memor
     Ok(shares)
 }
 
+// What each worker did, where a report is asked for.
+fn told_shares<T, G>(workers: &Workers<T, G>, hands: &Few<CommonHand>) -> Result<Few<Share>, Memory>
+    requires count { length hands.now.items ≡ workers.now.count }
+    ensures { IfOk result (λ shares. (inside : ℕ → Bool) (tasks : ℕ) (emits : ℕ → List (Emission ℕ ℤ))
+        → IsPermutation (range_with_len 0 tasks) (flat_map (λ h. h.tasks.items) hands.now.items)
+        → All (λ h. h.cells ≡ cells_of nat_cmp inside (flat_map emits h.tasks.items)) hands.now.items
+        → IsLawfulRound nat_cmp inside (reported workers.now) tasks emits (workers_of shares.items)) }
+{
+    if !workers.reports() {
+        return Few::with_room(workers.alloc, 0);
+    }
+    let shares = shares_of(workers.alloc, hands)?;
+    Ok(shares)
+}
+
 // A round in an array that has as many places as the job's capacity: the rows of what all tasks emit, or the first fault of that.
 fn common_round<T: Threads + Sync, G: Gate + Sync, M: Mapper<Key = NumKey, Value = i64> + Sync>(
     workers: &Workers<T, G>,
@@ -87,14 +105,14 @@ fn common_round<T: Threads + Sync, G: Gate + Sync, M: Mapper<Key = NumKey, Value
 ) -> Result<Round<NumKey>, Stop<Fault<NumKey>>>
     requires tasks { M.task_count mapper.now ≤ most_tasks }
     ensures { IsRoundOfTasks nat_cmp (below job.now.capacity) true once_folded
-        workers.now.count (M.task_count mapper.now) (M.task_emissions mapper.now) result }
+        (reported workers.now) (M.task_count mapper.now) (M.task_emissions mapper.now) result }
 {
     let done = map_shared(workers, job.queue, mapper, size_of(job))?;
     match done.faults.first() {
         Some(fault) => Err(Stop::Refused(fault)),
         None => Ok(Round {
             lists: only(workers.alloc, done.rows)?,
-            shares: shares_of(workers.alloc, &done.hands)?,
+            shares: told_shares(workers, &done.hands)?,
         }),
     }
 }
@@ -110,7 +128,7 @@ pub(crate) fn once_round<
     requires once { job.now.combiner ≡ combiner.Once }
     ensures { IsRoundOfTasks nat_cmp (inside_of job.now.container job.now.capacity) (is_shared job.now.container)
         (folded job.now.combiner job.now.reducer)
-        workers.now.count (M.task_count mapper.now) (M.task_emissions mapper.now) result }
+        (reported workers.now) (M.task_count mapper.now) (M.task_emissions mapper.now) result }
 {
     common_round(workers, job, mapper)
 }

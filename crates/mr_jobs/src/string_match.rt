@@ -7,6 +7,7 @@ ghost use Rattle.mr_defs.specs.Tasks.{most_tasks};
 ghost use Rattle.mr_jobfile.specs.Seen.{seen};
 ghost use Rattle.mr_jobs.specs.Meaning.{inside_of, is_shared};
 ghost use Rattle.mr_jobs.specs.Outputs.{IsJobOutput};
+ghost use Rattle.mr_jobs.specs.Reported.{reported};
 ghost use Rattle.mr_jobs.specs.RoundOf.{IsRoundOfTasks};
 ghost use Rattle.mr_split.specs.declared.boundary.Boundary.{Boundary};
 
@@ -35,7 +36,7 @@ fn matched<T: Threads + Sync, G: Gate + Sync, M: Mapper<Key = NumKey, Value = i6
     requires tasks { M.task_count mapper.now ≤ most_tasks }
     ensures { IsRoundOfTasks nat_cmp (inside_of job.now.container job.now.capacity) (is_shared job.now.container)
         (folded job.now.combiner job.now.reducer)
-        workers.now.count (M.task_count mapper.now) (M.task_emissions mapper.now) result }
+        (reported workers.now) (M.task_count mapper.now) (M.task_emissions mapper.now) result }
 {
     at_combiner!(job.combiner, { Sum, Count, One }, own_round[T, G, M](workers, job, mapper))
 }
@@ -49,7 +50,7 @@ pub(crate) fn string_match<T: Threads + Sync, G: Gate + Sync>(
     requires kind { job.now.job ≡ kind.StringMatch }
     requires count { length inputs.now ≡ 1 }
     requires short { All (λ bytes. length bytes ≤ input_limit) inputs.now }
-    ensures { IsJobOutput (seen job.now) inputs.now workers.now.count result }
+    ensures { IsJobOutput (seen job.now) inputs.now (reported workers.now) result }
 {
     let input = first_input(inputs);
     let pieces = pieces(workers.alloc, input, job.chunk, Boundary::Line)?;

@@ -10,6 +10,7 @@ ghost use Rattle.mr_jobs.specs.Jobs.{IsLawfulReport};
 ghost use Rattle.mr_jobs.specs.Meets.{IsOfInputs, MeetsSeen};
 ghost use Rattle.mr_jobs.specs.Outputs.{IsJobOutput, IsOutputOf};
 ghost use Rattle.mr_jobs.specs.Printable.{IsPrintable};
+ghost use Rattle.mr_jobs.specs.Reported.{reported};
 ghost use Rattle.mr_jobs.specs.RoundOf.{IsRoundOfTasks};
 ghost use Rattle.mr_report.specs.Shown.{rounds_seen};
 ghost use Rattle.mr_split.specs.declared.boundary.Boundary.{Boundary};
@@ -40,7 +41,7 @@ where
     requires kind { job.now.job ≡ kind.WordCount }
     requires tasks { M.task_count mapper.now ≤ most_tasks }
     ensures { IsRoundOfTasks M.Key.cmp all_inside false (folded job.now.combiner job.now.reducer)
-        workers.now.count (M.task_count mapper.now) (M.task_emissions mapper.now) result }
+        (reported workers.now) (M.task_count mapper.now) (M.task_emissions mapper.now) result }
 {
     at_combiner!(job.combiner, { Sum, Count, One }, table_round[T, G, M](workers, job, mapper))
 }
@@ -54,7 +55,7 @@ fn words<T: Threads + Sync, G: Gate + Sync>(
 ) -> Result<Output, Stop<Refusal>>
     requires kind { job.now.job ≡ kind.WordCount }
     requires short { length input.now ≤ input_limit }
-    ensures { IsOutputOf (seen job.now) (counted_words (seen job.now) written input.now) workers.now.count result }
+    ensures { IsOutputOf (seen job.now) (counted_words (seen job.now) written input.now) (reported workers.now) result }
 {
     let pieces = pieces(workers.alloc, input, job.chunk, Boundary::Word)?;
     let mapper = WordCount::new(input, &pieces);
@@ -70,7 +71,7 @@ pub(crate) fn word_count<T: Threads + Sync, G: Gate + Sync>(
     requires kind { job.now.job ≡ kind.WordCount }
     requires count { length inputs.now ≡ 1 }
     requires short { All (λ bytes. length bytes ≤ input_limit) inputs.now }
-    ensures { IsJobOutput (seen job.now) inputs.now workers.now.count result }
+    ensures { IsJobOutput (seen job.now) inputs.now (reported workers.now) result }
 {
     words(workers, job, first_input(inputs), Written::Rows)
 }
@@ -85,7 +86,7 @@ pub fn run_generated<T: Threads + Sync, G: Gate + Sync>(
     requires short { length text.now ≤ input_limit }
     ensures ending { MeetsSeen (λ o. o.text) (generated_ending (seen job.now) text.now) result }
     ensures of_inputs { IsOfInputs result }
-    ensures shares { IfOk result (λ o. IsLawfulReport (seen job.now) (text.now ∷ []) workers.now.count (rounds_seen o.rounds.items)) }
+    ensures shares { IfOk result (λ o. IsLawfulReport (seen job.now) (text.now ∷ []) (reported workers.now) (rounds_seen o.rounds.items)) }
     ensures printable { IfOk result IsPrintable }
 {
     let input = text.as_bytes();

@@ -1,5 +1,6 @@
 -- Reports that are asked for.
-use Rattle.std.proofs.Common.{◌≡◌, ◌∙◌, Bool, true, false, ℕ, List, Option, Some, None, Ok, Err, IfOk, if◌then◌else◌, ap, refl, subst, sym}
+use Rattle.std.proofs.Common.{◌≡◌, ◌∙◌, Bool, true, false, true≢false, ℕ, List, Option, Some, None, Ok, Err, IfOk, if◌then◌else◌, ap, refl}
+use Rattle.std.proofs.Common.{subst, sym}
 use Rattle.std.specs.Option.{option_map_or}
 use Rattle.std.specs.declared.result.Result.{Result}
 use Rattle.mr_items.specs.Report.{Work, report_text}
@@ -15,11 +16,13 @@ use Rattle.mr_top.specs.RunEnding.{job_at}
 use Rattle.mr_top.specs.Stages.{ComesTo, Contents}
 use Rattle.mr_top.specs.Written.{Told}
 
--- the report of these rounds, where one is asked for
-pub reports_given : (asked : Bool) (Is : List (List Work) → Type 0) (rounds : List (List Work)) (report : Option (List ℕ))
-    → report ≡ (if asked then Some (report_text rounds) else None) → Is rounds → Reports asked Is report
-reports_given true Is rounds report is of = (rounds, of, is)
-reports_given false Is rounds report is of = is
+-- the report of these rounds, where one is asked for, and so many workers are told of
+pub reports_given : (asked told : Bool) (count : ℕ) (Is : Option ℕ → List (List Work) → Type 0) (rounds : List (List Work))
+    (report : Option (List ℕ)) → told ≡ asked → report ≡ (if asked then Some (report_text rounds) else None)
+    → Is (if told then Some count else None) rounds → Reports asked (Is (Some count)) report
+reports_given true true count Is rounds report same is of = (rounds, of, is)
+reports_given true false count Is rounds report same is of = absurd (true≢false (sym same))
+reports_given false told count Is rounds report same is of = is
 
 -- rounds of which more holds
 pub reports_more : (asked : Bool) (Is More : List (List Work) → Type 0) (report : Option (List ℕ))

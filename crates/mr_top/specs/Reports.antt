@@ -29,7 +29,7 @@ inputs_by (mode.Generate seed count) names j = λ content. Ok (generated seed co
 -- these are the rounds of a job with so many workers, on the inputs that it comes to
 abbrev pub IsOfJobReport : Option Contents → Mode → List (List ℕ) → SeenJob → ℕ → List (List Work) → Type 0
 IsOfJobReport contents m names j workers rounds =
-    (inputs : List (List ℕ)) × ComesTo contents (inputs_by m names j) (Ok inputs) × IsLawfulReport j inputs workers rounds
+    (inputs : List (List ℕ)) × ComesTo contents (inputs_by m names j) (Ok inputs) × IsLawfulReport j inputs (Some workers) rounds
 
 -- and of what a command asks for; and of what words do
 abbrev pub IsOfCommand : Option Contents → Form → List (List Work) → Type 0

@@ -8,6 +8,7 @@ ghost use Rattle.mr_jobfile.specs.Seen.{seen};
 ghost use Rattle.mr_jobs.specs.Jobs.{IsLawfulReport, inputs_wanted, job_ending};
 ghost use Rattle.mr_jobs.specs.Meets.{IsOfInputs, Meets, MeetsSeen};
 ghost use Rattle.mr_jobs.specs.Printable.{IsPrintable};
+ghost use Rattle.mr_jobs.specs.Reported.{reported};
 ghost use Rattle.mr_report.specs.Shown.{rounds_seen};
 ghost use Rattle.mr_top.specs.Halts.{Halts, HasJobStatus, HasLateStatus, IsOfJob, IsPastJob, IsPastWords};
 ghost use Rattle.mr_top.specs.Means.{ReadAlone};
@@ -39,7 +40,7 @@ fn on_inputs<T: Threads + Sync, G: Gate + Sync>(
     requires short { All (λ bytes. length bytes ≤ input_limit) inputs.now.items }
     ensures ending { MeetsSeen (λ o. o.text) (job_ending (seen job.now) inputs.now.items) result }
     ensures of_inputs { IsOfInputs result }
-    ensures shares { IfOk result (λ o. IsLawfulReport (seen job.now) inputs.now.items workers.now.count (rounds_seen o.rounds.items)) }
+    ensures shares { IfOk result (λ o. IsLawfulReport (seen job.now) inputs.now.items (reported workers.now) (rounds_seen o.rounds.items)) }
     ensures printable { IfOk result IsPrintable }
 {
     run_job(workers, job, inputs)
@@ -53,6 +54,7 @@ fn ran<T: Threads + Sync, G: Gate + Sync, H: Shelf>(
     names: &[Word],
     asked: bool,
 ) -> Result<Finished, Halt>
+    requires reports { workers.now.reports ≡ asked }
     ensures later { H.count shelf.old ≤ H.count shelf.new }
     ensures ok { IfOk result (λ o. ComesTo (H.contents shelf.old) (ran (seen job.now) names.now) (Ok o.text)) }
     ensures err { IfErr result (λ h. Halts h (H.contents shelf.old) (ran (seen job.now) names.now) (H.count shelf.old)
@@ -92,7 +94,7 @@ fn on_generated<T: Threads + Sync, G: Gate + Sync>(
     requires { IsUpTo words_most count }
     ensures ending { MeetsSeen (λ o. o.text) (generated_run (seen job.now) seed count) result }
     ensures late { HasLateStatus result }
-    ensures shares { IfOk result (λ o. IsLawfulReport (seen job.now) (generated seed count ∷ []) workers.now.count
+    ensures shares { IfOk result (λ o. IsLawfulReport (seen job.now) (generated seed count ∷ []) (reported workers.now)
         (rounds_seen o.rounds.items)) }
     ensures printable { IfOk result IsPrintable }
 {
@@ -108,6 +110,7 @@ pub fn commanded<T: Threads + Sync, G: Gate + Sync, H: Shelf>(
 ) -> Result<Finished, Halt>
     requires within { IsWithin command.now.mode }
     requires workers { workers.now.count ≡ command.now.workers }
+    requires reports { workers.now.reports ≡ command.now.report }
     ensures ok { IfOk result (λ o. ComesTo (H.contents shelf.old) (commanded (asked command.now)) (Ok o.text)) }
     ensures err { IfErr result (λ h. Halts h (H.contents shelf.old) (commanded (asked command.now)) (H.count shelf.old)
         (H.count shelf.new)) }

@@ -41,7 +41,7 @@ fn carried_out<T: Threads + Sync, H: Shelf, G: Gate + Sync>(
 {
     match read_command(alloc, words) {
         Ok(command) => {
-            let workers = Workers::of(rt, alloc, gate, command.workers);
+            let workers = Workers::of(rt, alloc, gate, command.workers, command.report);
             commanded(&workers, &command, shelf)
         }
         Err(Stop::Refused(_)) => Err(Halt::Usage),

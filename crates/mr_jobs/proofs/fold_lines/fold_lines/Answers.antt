@@ -6,6 +6,7 @@ use Rattle.mr_items.specs.Texts.{rows_text}
 use Rattle.mr_jobfile.specs.Seen.{seen}
 use Rattle.mr_jobs.specs.Jobs.{folded_lines}
 use Rattle.mr_jobs.specs.Outputs.{IsOutputOf}
+use Rattle.mr_jobs.specs.Reported.{reported}
 use Rattle.mr_jobs.proofs.Outputs.{bytes_output, numbers_output, of_kind}
 use Rattle.mr_split.specs.declared.boundary.Boundary.{Boundary}
 use Rattle.mr_jobs.proofs.fold_lines.fold_lines.Goals as goal
@@ -13,7 +14,7 @@ use Rattle.mr_jobs.proofs.fold_lines.fold_lines.Goals as goal
 pub returns-in-Bytes : goal.returns-in-Bytes
 returns-in-Bytes g c =
     let j = seen c.args.job.now in
-    let workers = c.args.workers.now.count in
+    let workers = reported c.args.workers.now in
     let inputs = c.args.inputs.now in
     let result = c.rows_output.result in
     of_kind j workers result inputs kind.FoldLines c.requires.kind
@@ -25,7 +26,7 @@ returns-in-Bytes g c =
 pub returns : goal.returns
 returns g c =
     let j = seen c.args.job.now in
-    let workers = c.args.workers.now.count in
+    let workers = reported c.args.workers.now in
     let inputs = c.args.inputs.now in
     let result = c.rows_output-in-Numbers.result in
     of_kind j workers result inputs kind.FoldLines c.requires.kind

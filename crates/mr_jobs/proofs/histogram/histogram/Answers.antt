@@ -5,6 +5,7 @@ use Rattle.mr_grid.specs.Pixels.{bitmap_of}
 use Rattle.mr_jobfile.specs.Seen.{seen}
 use Rattle.mr_jobs.specs.Jobs.{pixels}
 use Rattle.mr_jobs.specs.Outputs.{IsOutputOf}
+use Rattle.mr_jobs.specs.Reported.{reported}
 use Rattle.mr_jobs.proofs.Inputs.{of_bitmap, of_no_bitmap}
 use Rattle.mr_jobs.proofs.Outputs.{of_kind}
 use Rattle.mr_jobs.proofs.histogram.histogram.Goals as goal
@@ -12,7 +13,7 @@ use Rattle.mr_jobs.proofs.histogram.histogram.Goals as goal
 pub returns-in-Ok : goal.returns-in-Ok
 returns-in-Ok g c =
     let j = seen c.args.job.now in
-    let workers = c.args.workers.now.count in
+    let workers = reported c.args.workers.now in
     let first = slice_index_or c.args.inputs.now 0 [] in
     let input = c.first_input-input.ensures.input in
     of_kind j workers c.pixels.result c.args.inputs.now kind.Histogram c.requires.kind
@@ -22,7 +23,7 @@ returns-in-Ok g c =
 pub returns-in_ok-refused_bitmap-in-Err : goal.returns-in_ok-refused_bitmap-in-Err
 returns-in_ok-refused_bitmap-in-Err g c =
     let j = seen c.args.job.now in
-    let workers = c.args.workers.now.count in
+    let workers = reported c.args.workers.now in
     let first = slice_index_or c.args.inputs.now 0 [] in
     let refusal = c.in_ok-refused_bitmap-in-Err in
     of_kind j workers _ c.args.inputs.now kind.Histogram c.requires.kind

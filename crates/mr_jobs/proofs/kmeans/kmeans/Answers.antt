@@ -2,6 +2,7 @@ use Rattle.std.proofs.Common.{subst, ap}
 use Rattle.mr_capacity.specs.declared.jobs.JobKind.TheVariants as kind
 use Rattle.mr_jobfile.specs.Seen.{seen}
 use Rattle.mr_jobs.specs.Jobs.{clusters, first_grid, gridded}
+use Rattle.mr_jobs.specs.Reported.{reported}
 use Rattle.mr_jobs.proofs.Inputs.{of_input, of_stopped}
 use Rattle.mr_jobs.proofs.Outputs.{of_kind}
 use Rattle.mr_jobs.proofs.Grids.{dense_even}
@@ -15,7 +16,7 @@ moved-requires-clause-even g c κs within =
 pub returns-in-Ok : goal.returns-in-Ok
 returns-in-Ok g c =
     let j = seen c.args.job.now in
-    let workers = c.args.workers.now.count in
+    let workers = reported c.args.workers.now in
     of_kind j workers c.moved.result c.args.inputs.now kind.KMeans c.requires.kind
     (of_input j workers (first_grid j c.args.inputs.now) (clusters j) _ c.moved.result (ap (gridded 1) c.in-Ok.ensures.read)
     c.moved.ensures)
@@ -23,7 +24,7 @@ returns-in-Ok g c =
 pub returns-in-Err : goal.returns-in-Err
 returns-in-Err g c =
     let j = seen c.args.job.now in
-    let workers = c.args.workers.now.count in
+    let workers = reported c.args.workers.now in
     of_kind j workers _ c.args.inputs.now kind.KMeans c.requires.kind
     (of_stopped j workers (λ grid. grid) (first_grid j c.args.inputs.now) (clusters j) c.in-Err.stop c.in-Err.ensures.grid
     c.in-Err.ensures.of_inputs)

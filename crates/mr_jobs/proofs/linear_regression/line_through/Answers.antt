@@ -10,6 +10,7 @@ use Rattle.mr_items.specs.LinearRegression.{is_regression_shape, linear_regressi
 use Rattle.mr_jobfile.specs.Seen.{seen}
 use Rattle.mr_jobs.specs.Meaning.{inside_of, is_shared, number_spans, once}
 use Rattle.mr_jobs.specs.Outputs.{IsOutputOf}
+use Rattle.mr_jobs.specs.Reported.{reported}
 use Rattle.mr_jobs.proofs.Inputs.{of_shape}
 use Rattle.mr_jobs.proofs.Outputs.{once_output}
 use Rattle.mr_jobs.proofs.linear_regression.line_through.Goals as goal
@@ -18,7 +19,7 @@ pub returns : goal.returns
 returns g c =
     let j = seen c.args.job.now in
     let grid = c.args.grid.now in
-    let workers = c.args.workers.now.count in
+    let workers = reported c.args.workers.now in
     let inside = inside_of j.container j.capacity in
     let shared = is_shared j.container in
     let items = range_with_len 0 (length grid) in

@@ -8,6 +8,7 @@ use Rattle.mr_items.specs.Texts.{rows_text}
 use Rattle.mr_jobfile.specs.Seen.{seen}
 use Rattle.mr_grid.specs.Dense.{turned_of}
 use Rattle.mr_split.specs.Pieces.{AreSpans}
+use Rattle.mr_jobs.specs.Reported.{reported}
 use Rattle.mr_jobs.proofs.Factors.{alike, few_elements, rows_of_turned}
 use Rattle.mr_jobs.proofs.Outputs.{spans_output}
 use Rattle.mr_jobs.proofs.matrix_product.multiplied.Goals as goal
@@ -35,7 +36,7 @@ returns g c =
     let job = c.args.job.now in
     let left = c.args.left.now in
     let right = c.args.right.now in
-    spans_output (seen job) c.args.workers.now.count c.rows_output.result (rows_text decimal) (length left * columns_of right)
+    spans_output (seen job) (reported c.args.workers.now) c.rows_output.result (rows_text decimal) (length left * columns_of right)
     (matrix_product_emits left right) _ _ c.product_rows.result _
     (c.spans-spans.ensures.exact ∙ ap (spans_of job.chunk) c.elements.ensures.count)
     c.new-mapper.ensures.count (λ t. c.new-mapper.ensures.tasks right t c.in_ok-turned.ensures)

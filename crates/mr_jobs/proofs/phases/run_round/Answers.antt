@@ -1,10 +1,7 @@
 use Rattle.std.proofs.Common.{◌∙◌, flat_map, sym}
 use Rattle.std.specs.List.{range_with_len}
 use Rattle.mr_base.specs.Noting.{noted_of}
-use Rattle.mr_phase.specs.declared.hands.Hand.{Hand}
-use Rattle.mr_report.specs.Shown.{workers_of}
 use Rattle.mr_jobs.proofs.Merging.{round_passed, round_refused}
-use Rattle.mr_jobs.proofs.Sharing.{lawful}
 use Rattle.mr_jobs.proofs.phases.run_round.Goals as goal
 
 pub returns-in-Some : goal.returns-in-Some
@@ -33,10 +30,6 @@ returns-in-None g c =
           (flat_map emits all) reduced.lists.items (noted_of reduced.faults)
           (c.in_ok-lists.ensures.tasks emits all c.in_ok-mapped.ensures.stands c.in_ok-mapped.ensures.once)
           rows (sym c.in-None.is ∙ c.first.ensures) merged.all merged.ascend;
-      shares =
-          lawful (λ (h : Hand g.row.L.Denot). h.tasks.items) (λ h. g.L.Local.cell_count h.local) g.L.Key.Ord.cmp g.L.Parted.inside emits
-          c.args.workers.now.count (g.M.Mapper.task_count c.args.mapper.now)
-          c.in_ok-mapped.mapped (workers_of c.in_ok-shares.shares.items) c.in_ok-shares.ensures.seen c.in_ok-mapped.ensures.count
-          c.in_ok-mapped.ensures.once
-          (c.in_ok-shares.ensures.cells emits c.in_ok-mapped.ensures.stands);
+      shares = c.in_ok-shares.ensures (g.M.Mapper.task_count c.args.mapper.now) emits c.in_ok-mapped.ensures.once
+          c.in_ok-mapped.ensures.stands;
     }

@@ -13,11 +13,8 @@ use Rattle.mr_defs.specs.Rows.{cells_of, rows_of}
 use Rattle.mr_merge.specs.Merged.{AreMerged, CanMerge}
 use Rattle.mr_items.specs.Keys.{below}
 use Rattle.mr_phase.specs.declared.common.CommonHand.{CommonHand}
-use Rattle.mr_report.specs.Shown.{workers_of}
-use Rattle.mr_jobs.specs.Shares.{AreShares}
 use Rattle.mr_jobs.proofs.CommonRounds.{common_passed, common_refused, none_twice}
 use Rattle.mr_jobs.proofs.Merging.{one_can, one_is, rows_of_ascend}
-use Rattle.mr_jobs.proofs.Sharing.{each_seen, lawful}
 use Rattle.mr_jobs.proofs.shared.common_round.Goals as goal
 
 -- an array of this size gave these rows, which ascend
@@ -46,8 +43,8 @@ returns-in-Some g c =
       shares = tt;
     }
 
-pub returns-in_ok-shares_of-in-None : goal.returns-in_ok-shares_of-in-None
-returns-in_ok-shares_of-in-None g c =
+pub returns-in_ok-told_shares-in-None : goal.returns-in_ok-told_shares-in-None
+returns-in_ok-told_shares-in-None g c =
     let m = c.args.mapper.now in
     let emits = g.M.Mapper.task_emissions m in
     let es = flat_map emits (range_with_len 0 (g.M.Mapper.task_count m)) in
@@ -57,7 +54,6 @@ returns-in_ok-shares_of-in-None g c =
     let done = c.in_ok-done.done in
     let told = c.in_ok-done.ensures in
     let lists = c.in_ok-only-in-None in
-    let shares = c.in_ok-shares_of-in-None in
     let first = sym c.in-None.is ∙ c.first.ensures in
     let none = none_twice (noted_of done.faults) first in
     let cells = subst (λ n. All (λ (h : CommonHand). h.cells ≡ cells_of nat_cmp (below n) (flat_map emits h.tasks.items)) done.hands.items)
@@ -67,11 +63,5 @@ returns-in_ok-shares_of-in-None g c =
       rows = λ rows merged. subst (λ n. round_of nat_cmp (below n) true once_folded es ≡ Ok rows) same
           (common_passed nat_cmp (below size) once_folded es (noted_of done.faults) told.faults rows first
           (λ none. merged_is size es done.rows lists.field-0.items lists.ensures (told.rows none) rows merged));
-      shares =
-          lawful (λ (h : CommonHand). h.tasks.items) (λ h. h.cells) nat_cmp (below capacity) emits c.args.workers.now.count
-          (g.M.Mapper.task_count m) done.hands.items (workers_of shares.field-0.items) shares.ensures told.count told.once
-          (subst (AreShares nat_cmp (below capacity) emits) (sym shares.ensures)
-          (each_seen (λ (h : CommonHand). (h.tasks.items, h.cells))
-          (λ w. w.1 ≡ cells_of nat_cmp (below capacity) (flat_map emits w.0)) done.hands.items
-          (λ h. h.cells ≡ cells_of nat_cmp (below capacity) (flat_map emits h.tasks.items)) (λ h is. is) cells));
+      shares = c.in_ok-told_shares-in-None.ensures (below capacity) (g.M.Mapper.task_count m) emits told.once cells;
     }

@@ -2,13 +2,14 @@ use Rattle.mr_capacity.specs.declared.jobs.JobKind.TheVariants as kind
 use Rattle.mr_items.specs.StringMatch.{string_match_emits}
 use Rattle.mr_jobfile.specs.Seen.{seen}
 use Rattle.mr_jobs.proofs.Outputs.{numbers_output, of_kind}
+use Rattle.mr_jobs.specs.Reported.{reported}
 use Rattle.mr_split.specs.declared.boundary.Boundary.{Boundary}
 use Rattle.mr_jobs.proofs.string_match.string_match.Goals as goal
 
 pub returns : goal.returns
 returns g c =
     let j = seen c.args.job.now in
-    let workers = c.args.workers.now.count in
+    let workers = reported c.args.workers.now in
     of_kind j workers c.rows_output.result c.args.inputs.now kind.StringMatch c.requires.kind
     (numbers_output j workers c.rows_output.result Boundary.Line (string_match_emits j.patterns) _ _ c.matched.result _ _ _
     c.in_ok-pieces.ensures.exact c.first_input-input.ensures.input c.new-mapper.ensures.count c.new-mapper.ensures.tasks

@@ -1,10 +1,10 @@
-use Rattle.std.proofs.Common.{Ok, [], ◌∷◌, refl, subst}
+use Rattle.std.proofs.Common.{ℕ, List, Ok, refl, subst}
 use Rattle.mr_command.specs.Asked.{asked}
 use Rattle.mr_command.specs.declared.command.Mode.TheVariants as mode
-use Rattle.mr_items.specs.Generator.{generated}
 use Rattle.mr_jobfile.specs.Seen.{seen}
 use Rattle.mr_jobs.specs.Jobs.{IsLawfulReport}
 use Rattle.mr_report.specs.Shown.{rounds_seen}
+use Rattle.mr_top.specs.Reports.{IsOfJobReport, Reports, inputs_by}
 use Rattle.mr_top.specs.RunEnding.{job_at}
 use Rattle.mr_top.specs.Stages.{ComesTo}
 use Rattle.mr_top.proofs.Reporting.{command_reports, reports_given, run_reports}
@@ -20,15 +20,16 @@ returns-in-Run-clause-report g c =
 
 pub returns-clause-report : goal.returns-clause-report
 returns-clause-report g c =
-    command_reports (g.H.Shelf.contents c.args.shelf.now) (asked c.args.command.now) (seen c.in_ok-job.job)
-    (mode.Generate c.in-Generate.seed c.in-Generate.count) refl c.in-Generate.is
-    (subst (λ name. ComesTo (g.H.Shelf.contents c.args.shelf.now) (job_at name)
-    (Ok (seen c.in_ok-job.job))) c.as_str.ensures c.in_ok-job.ensures.ok) _
-    (reports_given c.args.command.now.report _
-    (rounds_seen c.in_ok-output-in-Generate.output.rounds.items) _ c.in_ok-finished_job-in-Generate.ensures.report (
-      _,
-      given_comes _ _ _ refl,
-      subst (λ n. IsLawfulReport (seen c.in_ok-job.job) (generated c.in-Generate.seed c.in-Generate.count ∷ []) n
-          (rounds_seen c.in_ok-output-in-Generate.output.rounds.items)) c.requires.workers
-          c.in_ok-output-in-Generate.ensures.shares,
-    ))
+    let j = seen c.in_ok-job.job in
+    let f = asked c.args.command.now in
+    let contents = g.H.Shelf.contents c.args.shelf.now in
+    let m = mode.Generate c.in-Generate.seed c.in-Generate.count in
+    command_reports contents f j m refl c.in-Generate.is
+    (subst (λ name. ComesTo contents (job_at name) (Ok j)) c.as_str.ensures c.in_ok-job.ensures.ok) _
+    (subst (λ n. Reports f.report (IsOfJobReport contents m f.inputs j n) c.in_ok-finished_job-in-Generate.field-0.report)
+    c.requires.workers
+    (reports_given f.report c.args.workers.now.reports c.args.workers.now.count
+    (λ workers rounds. (inputs : List (List ℕ)) × ComesTo contents (inputs_by m f.inputs j) (Ok inputs)
+    × IsLawfulReport j inputs workers rounds)
+    (rounds_seen c.in_ok-output-in-Generate.output.rounds.items) _ c.requires.reports c.in_ok-finished_job-in-Generate.ensures.report
+    (_, given_comes _ _ _ refl, c.in_ok-output-in-Generate.ensures.shares)))

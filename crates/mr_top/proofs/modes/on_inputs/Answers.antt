@@ -2,6 +2,7 @@ use Rattle.std.proofs.Common.{IfOk, subst}
 use Rattle.mr_jobfile.specs.Seen.{seen}
 use Rattle.mr_jobs.specs.Jobs.{IsLawfulReport, job_ending}
 use Rattle.mr_jobs.specs.Meets.{MeetsSeen}
+use Rattle.mr_jobs.specs.Reported.{reported}
 use Rattle.mr_report.specs.Shown.{rounds_seen}
 use Rattle.mr_top.proofs.modes.on_inputs.Goals as goal
 
@@ -13,5 +14,5 @@ returns-clause-ending g c =
 pub returns-clause-shares : goal.returns-clause-shares
 returns-clause-shares g c =
     subst (λ inputs. IfOk c.run_job.result
-    (λ o. IsLawfulReport (seen c.args.job.now) inputs c.args.workers.now.count (rounds_seen o.rounds.items)))
+    (λ o. IsLawfulReport (seen c.args.job.now) inputs (reported c.args.workers.now) (rounds_seen o.rounds.items)))
     c.deref.ensures.value c.run_job.ensures.shares
