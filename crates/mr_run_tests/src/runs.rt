@@ -1,5 +1,5 @@
 use crate::gates::NotingGate;
-use mr_base::{Memory, Status, Word};
+use mr_base::{Memory, Status, Text, Word};
 use mr_outside::{MemoryShelf, MemorySink};
 use mr_top::run;
 use std::alloc::Global;
@@ -70,6 +70,41 @@ pub fn ran_on<R: Threads + Sync>(
     shelf.add("in", inputs.0)?;
     shelf.add("two", inputs.1)?;
     passed(rt, alloc, texts, &mut shelf, 1000, gate)
+}
+
+// So many words of seven digits in their order, each of them followed by this text; and all of them so many times.
+fn many_words(alloc: Global, count: u32, then: &[u8], times: u32) -> Result<Text, Memory> {
+    let mut text = Text::new(alloc);
+    for n in 0..count.wrapping_mul(times) {
+        text.push_natural(1000000 + (n % count.max(1)) as u64)?;
+        text.push(then)?;
+    }
+    Ok(text)
+}
+
+// So many that tables are given away before their worker ends, and that the entries of a partition are joined in parts.
+#[test]
+fn many_different_words(rt: HostRuntime) -> Result<(), Fail> {
+    let alloc = rt.alloc();
+    let input = many_words(alloc, 150000, b" ", 2)?;
+    let wanted = many_words(alloc, 150000, b" 2\n", 1)?;
+    let mut shelf = MemoryShelf::new(alloc, 65536)?;
+    shelf.add("W", WORDS.as_bytes())?;
+    shelf.add("in", input.as_bytes())?;
+    let cases: [&[&str]; 3] = [
+        &["mapred", "W", "in"],
+        &["mapred", "--workers", "4", "W", "in"],
+        &["mapred", "--workers", "4", "--report", "W", "in"],
+    ];
+    for words in cases {
+        let gate = NotingGate::new(0);
+        let (status, out, _) = passed(&rt, alloc, words, &mut shelf, 10000000, &gate)?;
+        assert!(rt;
+            status == Status::Done && out.bytes() == wanted.as_bytes(),
+            "{words:?}"
+        );
+    }
+    Ok(())
 }
 
 #[test]

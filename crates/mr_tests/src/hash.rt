@@ -2,7 +2,7 @@ ghost use Rattle.std.specs.Prelude.{◌≤◌, ◌<◌, All, IfOk, length};
 
 use crate::shown::push_numbers;
 use crate::threads::can_be_shared;
-use mr_base::{ByteKey, Emitted, Key, Memory, SliceKey, Text, TextKey};
+use mr_base::{ByteKey, Emitted, Key, Memory, NumKey, SliceKey, Text, TextKey};
 use mr_combine::{Buffer, Combiner, List, Plain, Reducer, Sum};
 use mr_container::{Local, Parted, SortedLocal};
 use mr_hash::HashLocal;
@@ -164,5 +164,39 @@ fn least_faults(rt: HostRuntime) -> Result<(), Fail> {
     assert!(rt; local.faults().outside.is_none() && local.faults().twice.is_none());
     assert!(rt; local.cells() == 1);
     assert!(rt; can_be_shared(&local));
+    Ok(())
+}
+
+// Emits so many pairs, each of a key of its own.
+fn count_up<L: Local<Key = NumKey, Value = i64>>(local: &mut L, pairs: u32) -> Result<(), Memory> {
+    for n in 0..pairs {
+        local.emit(NumKey(n as u64), 1)?;
+    }
+    Ok(())
+}
+
+#[test]
+fn full_tables_are_given_away(rt: HostRuntime) -> Result<(), Fail> {
+    let alloc = rt.alloc();
+    let mut local: HashLocal<NumKey, Sum, 65536> = HashLocal::new(alloc)?;
+    local.malformed(7);
+    count_up(&mut local, 40000)?;
+    assert!(rt; local.spill(alloc)?.is_none());
+    count_up(&mut local, 50000)?;
+    assert!(rt; local.spill(alloc)?.is_none() && local.cells() == 50000);
+    let mut local: HashLocal<NumKey, Sum, 65536> = HashLocal::new(alloc)?;
+    local.malformed(7);
+    count_up(&mut local, 50000)?;
+    let given = local.spill(alloc)?;
+    assert!(rt; local.cells() == 0 && local.faults().malformed.is_none());
+    count_up(&mut local, 3)?;
+    assert!(rt; local.cells() == 3 && local.spill(alloc)?.is_none());
+    match given {
+        Some(given) => assert!(rt; given.cells() == 50000 && given.faults().malformed == Some(7)),
+        None => assert!(rt; false),
+    }
+    let mut lists: HashLocal<NumKey, Buffer, 65536> = HashLocal::new(alloc)?;
+    count_up(&mut lists, 50000)?;
+    assert!(rt; lists.spill(alloc)?.is_none());
     Ok(())
 }
